@@ -1,0 +1,74 @@
+-- The words of demand 3: books that differ only in which endpoints offer delay reporting, a far end that never uses it, and where
+-- the two bridges begin.
+use Prim.Native.Nat.{ℕ}
+use mathlib.Core.Path.{_≡_}
+use mathlib.Core.List.{List, [], _∷_}
+use mathlib.Core.Bool.{Bool, true, false, not, _&&_, _||_}
+use mathlib.Core.Option.{Option, none, some}
+use lib.ListN.{length, drop}
+use lib.Dec.{leb, eqb}
+use Rattle.rules.specs.Octets.{if_then_else_, sameOctets, each-of}
+use Rattle.rules.specs.Elements.{items, has}
+use Rattle.rules.specs.Book.{Entry, Book, shownBy02}
+use Rattle.rules.specs.Packets.{Message, Gathering, gather, sizeRight}
+use Rattle.rules.specs.Endpoints.{Endpoint, Ends, isReported}
+use Rattle.rules.specs.Host.{Kept, freshCall, eventCall}
+use Rattle.rules.specs.Sessions.{Call, check, fresh, packet, event, settingsTold, delay, packets, cut}
+use Rattle.rules.specs.declared.Event.{Event}
+use Rattle.rules.specs.declared.Event.the-variants.{Up, Down, Lost}
+
+-- ---- Books alike, entry by entry: same SEID, same kind, same elements but for category 8. In a right book the elements that 02
+-- shows are all but those of category 8.
+
+unfoldable pub alikeEntry : Entry → Entry → Bool
+alikeEntry n n′ =
+    eqb (n .seid .0) (n′ .seid .0) && eqb (n .kind) (n′ .kind) && sameOctets (shownBy02 n) (shownBy02 n′)
+
+unfoldable pub alike : Book → Book → Bool
+alike [] [] = true
+alike [] (n ∷ book) = false
+alike (n ∷ book) [] = false
+alike (n ∷ book) (n′ ∷ book′) = alikeEntry n n′ && alike book book′
+
+-- ---- A far end that never uses delay reporting: it completes no 0C, no 0D, and no 03 of which a whole element has category 8
+
+unfoldable pub usesDelay : Message → Bool
+usesDelay m =
+    eqb (m .type) 0
+    && (eqb (m .signal) 0x0C || eqb (m .signal) 0x0D || (eqb (m .signal) 0x03 && has 8 (items (drop 2 (m .payload)))))
+
+unfoldable pub usesIn : Option Message → Bool
+usesIn none = false
+usesIn (some m) = usesDelay m
+
+-- what the host's events leave of a gathering
+unfoldable pub afterEvent : Option Gathering → Event → Option Gathering
+afterEvent g Up = g
+afterEvent g (Down s) = g
+afterEvent g Lost = none
+
+-- By the inputs alone: the messages that the packets of a sequence complete, from a gathering on. A packet that is refused with 8
+-- or 9 changes no gathering.
+unfoldable pub restrained : Option Gathering → List Call → Bool
+restrained g [] = true
+restrained g (check ∷ calls) = restrained g calls
+restrained g (fresh ∷ calls) = restrained none calls
+restrained g (packet size p reply ∷ calls) =
+    if sizeRight size && leb 64 (length reply)
+    then not (usesIn (gather size g p .done)) && restrained (gather size g p .gathering) calls
+    else restrained g calls
+restrained g (event e ∷ calls) = restrained (afterEvent g e) calls
+restrained g (settingsTold s ∷ calls) = restrained g calls
+restrained g (delay s ∷ calls) = restrained g calls
+restrained g (packets size n ∷ calls) = restrained g calls
+restrained g (cut size m k area ∷ calls) = restrained g calls
+
+-- ---- Where a bridge begins: fresh, or just lost, in an area with any past
+
+pub data Begins (book saved : List ℕ) : Type 0 where
+  begun : (area : List ℕ) → freshCall book area ≡ record { number = 0; saved = saved } → Begins book saved
+  lost : (area : List ℕ) → eventCall book area Lost ≡ record { number = 0; saved = saved } → Begins book saved
+
+-- no endpoint shows a reported delay
+unfoldable pub noneReported : Ends → Bool
+noneReported ends = each-of (λ e. not (isReported (e .delay))) ends

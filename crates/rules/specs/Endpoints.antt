@@ -1,0 +1,187 @@
+-- Endpoints and connections: when a connection is legal, and the link events (document 01, What the host is told and Commands).
+use Prim.Native.Nat.{ℕ, zero, suc, _+_}
+use mathlib.Core.List.{List, [], _∷_, map}
+use mathlib.Core.Bool.{Bool, true, false, not, _&&_, _||_}
+use mathlib.Core.Option.{Option, none, some}
+use lib.ListN.{length, getD, set}
+use lib.Dec.{leb, ltb, eqb}
+use Rattle.rules.specs.Octets.{if_then_else_, between, isEmpty}
+use Rattle.rules.specs.Elements.{items, has, couldStore}
+use Rattle.rules.specs.Book.{Entry, Book, isSource, Found, unknown, known, find}
+use Rattle.rules.specs.Packets.{Gathering, gatheringRight}
+use Rattle.rules.specs.declared.OurSeid.{OurSeid}
+use Rattle.rules.specs.declared.FarSeid.{FarSeid}
+use Rattle.rules.specs.declared.State.{State}
+use Rattle.rules.specs.declared.State.the-variants.{Idle, Configured, Open, Streaming, Closing, Aborting}
+use Rattle.rules.specs.declared.Channel.{Channel}
+use Rattle.rules.specs.declared.Channel.the-variants.{Absent, Awaited, Up}
+use Rattle.rules.specs.declared.Delay.{Delay}
+use Rattle.rules.specs.declared.Delay.the-variants.{Unreported, Reported}
+use Rattle.rules.specs.declared.Event.{Event}
+use Rattle.rules.specs.declared.Event.the-variants.{Down, Lost}
+
+-- One endpoint. No far SEID is 0, and no configuration is no octets.
+pub record Endpoint : Type 0 where
+  pub seid : OurSeid
+  pub state : State
+  pub channel : Channel
+  pub far : FarSeid
+  pub delay : Delay
+  pub config : List ℕ
+
+abbrev pub Ends : Type 0
+Ends = List Endpoint
+
+-- A connection: one endpoint per entry of the book, in the book's order, and what is being gathered.
+pub record Connection : Type 0 where
+  pub ends : Ends
+  pub gathering : Option Gathering
+
+-- Idle: no configuration, no far SEID, no reported delay and no channel.
+unfoldable pub idle : OurSeid → Endpoint
+idle s = record { seid = s; state = Idle; channel = Absent; far = record { 0 = 0 }; delay = Unreported; config = [] }
+
+unfoldable pub freshEnds : Book → Ends
+freshEnds [] = []
+freshEnds (n ∷ book) = idle (n .seid) ∷ freshEnds book
+
+unfoldable pub freshConnection : Book → Connection
+freshConnection book = record { ends = freshEnds book; gathering = none }
+
+-- ---- Legality
+
+unfoldable pub isAbsent : Channel → Bool
+isAbsent Absent = true
+isAbsent Awaited = false
+isAbsent Up = false
+
+unfoldable pub isAwaited : Channel → Bool
+isAwaited Absent = false
+isAwaited Awaited = true
+isAwaited Up = false
+
+unfoldable pub isUp : Channel → Bool
+isUp Absent = false
+isUp Awaited = false
+isUp Up = true
+
+unfoldable pub isIdle : State → Bool
+isIdle Idle = true
+isIdle Configured = false
+isIdle Open = false
+isIdle Streaming = false
+isIdle Closing = false
+isIdle Aborting = false
+
+unfoldable pub isReported : Delay → Bool
+isReported Unreported = false
+isReported (Reported d) = true
+
+-- Configured endpoints have no channel, open ones have one or await it, streaming, closing and aborting ones have one.
+unfoldable pub channelRight : State → Channel → Bool
+channelRight Idle c = isAbsent c
+channelRight Configured c = isAbsent c
+channelRight Open c = not (isAbsent c)
+channelRight Streaming c = isUp c
+channelRight Closing c = isUp c
+channelRight Aborting c = isUp c
+
+-- A delay can be reported to a source that is configured with category 8.
+unfoldable pub takesDelay : Entry → Endpoint → Bool
+takesDelay n e = isSource (n .kind) && has 8 (items (e .config))
+
+unfoldable pub delayRight : Entry → Endpoint → Bool
+delayRight n e = not (isReported (e .delay)) || takesDelay n e
+
+unfoldable pub farRight : FarSeid → Bool
+farRight s = between 1 62 (s .0)
+
+-- what an endpoint keeps while idle, and while not
+unfoldable pub keepsNothing : Endpoint → Bool
+keepsNothing e = eqb (e .far .0) 0 && isEmpty (e .config) && not (isReported (e .delay))
+
+unfoldable pub keepsSettings : Entry → Endpoint → Bool
+keepsSettings n e = farRight (e .far) && couldStore (items (n .caps)) (e .config) && delayRight n e
+
+unfoldable pub legalEnd : Entry → Endpoint → Bool
+legalEnd n e =
+    eqb (e .seid .0) (n .seid .0) && channelRight (e .state) (e .channel)
+    && (if isIdle (e .state) then keepsNothing e else keepsSettings n e)
+
+-- one record per book entry, in the book's order
+unfoldable pub legalEnds : Book → Ends → Bool
+legalEnds [] [] = true
+legalEnds [] (e ∷ ends) = false
+legalEnds (n ∷ book) [] = false
+legalEnds (n ∷ book) (e ∷ ends) = legalEnd n e && legalEnds book ends
+
+unfoldable pub awaiting : Ends → ℕ
+awaiting [] = 0
+awaiting (e ∷ ends) = (if isAwaited (e .channel) then 1 else 0) + awaiting ends
+
+unfoldable pub legalGathering : Option Gathering → Bool
+legalGathering none = true
+legalGathering (some g) = gatheringRight g
+
+unfoldable pub legal : Book → Connection → Bool
+legal book c = legalEnds book (c .ends) && leb (awaiting (c .ends)) 1 && legalGathering (c .gathering)
+
+-- ---- Moves of one endpoint
+
+unfoldable pub inState : State → Endpoint → Endpoint
+inState s e =
+    record { seid = e .seid; state = s; channel = e .channel; far = e .far; delay = e .delay; config = e .config }
+
+unfoldable pub withChannel : Channel → Endpoint → Endpoint
+withChannel c e =
+    record { seid = e .seid; state = e .state; channel = c; far = e .far; delay = e .delay; config = e .config }
+
+unfoldable pub withDelay : Delay → Endpoint → Endpoint
+withDelay d e =
+    record { seid = e .seid; state = e .state; channel = e .channel; far = e .far; delay = d; config = e .config }
+
+unfoldable pub withConfig : List ℕ → Endpoint → Endpoint
+withConfig l e =
+    record { seid = e .seid; state = e .state; channel = e .channel; far = e .far; delay = e .delay; config = l }
+
+-- Reaching idle forgets configuration, far SEID and delay.
+unfoldable pub forgotten : Endpoint → Endpoint
+forgotten e = idle (e .seid)
+
+-- Close and Abort: with a channel closing or aborting, without one idle.
+unfoldable pub leaving : State → Endpoint → Endpoint
+leaving s e = if isUp (e .channel) then inState s e else forgotten e
+
+-- the endpoint at a place of the book
+unfoldable pub endAt : Ends → ℕ → Endpoint
+endAt ends i = getD ends i (idle (record { 0 = 0 }))
+
+-- ---- Link events
+
+-- What an event leads to: 0 or 10, and the connection from then on.
+pub record Moved : Type 0 where
+  pub number : ℕ
+  pub connection : Connection
+
+unfoldable pub upIn : Ends → Ends
+upIn [] = []
+upIn (e ∷ ends) = if isAwaited (e .channel) then withChannel Up e ∷ ends else e ∷ upIn ends
+
+unfoldable pub withEnds : Ends → Connection → Connection
+withEnds ends c = record { ends = ends; gathering = c .gathering }
+
+unfoldable pub downAt : Found → Connection → Moved
+downAt unknown c = record { number = 10; connection = c }
+downAt (known i n) c =
+    let e = endAt (c .ends) i in
+    if isUp (e .channel) then record { number = 0; connection = withEnds (set (c .ends) i (forgotten e)) c }
+    else record { number = 10; connection = c }
+
+-- Channel up: the awaiting endpoint, else 10. Channel down for a SEID: to idle, else 10 if it has none. Link lost: all idle,
+-- gathering ended.
+unfoldable pub happens : Book → Connection → Event → Moved
+happens book c Event.Up =
+    if eqb (awaiting (c .ends)) 0 then record { number = 10; connection = c }
+    else record { number = 0; connection = withEnds (upIn (c .ends)) c }
+happens book c (Down s) = downAt (find s book) c
+happens book c Lost = record { number = 0; connection = record { ends = map forgotten (c .ends); gathering = none } }

@@ -1,0 +1,13 @@
+pub mod Octets
+pub mod Elements
+pub mod Book
+pub mod Packets
+pub mod Cutting
+pub mod Endpoints
+pub mod Saved
+pub mod Commands
+pub mod Host
+pub mod Sessions
+pub mod Alike
+pub mod Computed
+pub mod Table

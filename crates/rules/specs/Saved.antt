@@ -1,0 +1,162 @@
+-- The saved connection: where everything lies in the lent octets, how a connection is read from them and stored into them, and
+-- what of the octets counts (document 01, What the host is told: number 12; the layout is ours).
+use Prim.Native.Nat.{ℕ, zero, suc, _+_, _*_, _/_, _%_}
+use mathlib.Core.List.{List, [], _∷_, _++_}
+use mathlib.Core.Bool.{Bool, true, false, not, _&&_, _||_}
+use mathlib.Core.Option.{Option, none, some}
+use lib.ListN.{length, take, drop, getD}
+use lib.Dec.{leb, ltb, eqb}
+use Rattle.rules.specs.Octets.{if_then_else_, front}
+use Rattle.rules.specs.Book.{Book}
+use Rattle.rules.specs.Packets.{Gathering, longest}
+use Rattle.rules.specs.Endpoints.{Endpoint, Ends, Connection, legal}
+use Rattle.rules.specs.declared.State.{State}
+use Rattle.rules.specs.declared.State.the-variants.{Idle, Configured, Open, Streaming, Closing, Aborting}
+use Rattle.rules.specs.declared.Channel.{Channel}
+use Rattle.rules.specs.declared.Channel.the-variants.{Absent, Awaited, Up}
+use Rattle.rules.specs.declared.Delay.{Delay}
+use Rattle.rules.specs.declared.Delay.the-variants.{Unreported, Reported}
+
+-- ---- The layout
+--
+-- octets 0 to 519: the gathering.
+--   0 mark (0 none, 1 there) · 1 label · 2 message type · 3 signal · 4 packet count · 5 parts received · 6, 7 payload length, high
+--   octet first · 8 to 519 room for the payload
+-- then, for each entry of the book in its order, a record of 80 octets:
+--   0 our SEID · 1 state · 2 channel · 3 far SEID (0 none) · 4 delay mark (0 unreported, 1 reported) · 5, 6 delay, high octet
+--   first · 7 configuration length (0 none) · 8 to 71 room for the configuration · 72 to 79 spare
+--
+-- What is absent in octets 0 to 7 of a record is zero there. These do not count: all of the gathering's octets but the mark where
+-- the mark says none, octets behind a payload's or a configuration's end, spare octets, and octets behind the last record.
+
+abbrev pub gatheringRoom : ℕ
+gatheringRoom = 520
+
+abbrev pub recordRoom : ℕ
+recordRoom = 80
+
+-- the octets that a connection over n endpoints takes
+unfoldable pub areaFor : ℕ → ℕ
+areaFor n = gatheringRoom + n * recordRoom
+
+-- ---- One record
+
+unfoldable pub stateIn : ℕ → State
+stateIn o = getD (Idle ∷ Configured ∷ Open ∷ Streaming ∷ Closing ∷ Aborting ∷ []) o Idle
+
+unfoldable pub stateOctet : State → ℕ
+stateOctet Idle = 0
+stateOctet Configured = 1
+stateOctet Open = 2
+stateOctet Streaming = 3
+stateOctet Closing = 4
+stateOctet Aborting = 5
+
+unfoldable pub channelIn : ℕ → Channel
+channelIn o = getD (Absent ∷ Awaited ∷ Up ∷ []) o Absent
+
+unfoldable pub channelOctet : Channel → ℕ
+channelOctet Absent = 0
+channelOctet Awaited = 1
+channelOctet Up = 2
+
+unfoldable pub delayIn : ℕ → ℕ → Delay
+delayIn mark tenths = if eqb mark 0 then Unreported else Reported tenths
+
+unfoldable pub delayMark : Delay → ℕ
+delayMark Unreported = 0
+delayMark (Reported d) = 1
+
+unfoldable pub delayTenths : Delay → ℕ
+delayTenths Unreported = 0
+delayTenths (Reported d) = d
+
+-- 16 bits, high octet first
+abbrev pub pairIn : ℕ → ℕ → ℕ
+pairIn high low = high * 256 + low
+
+unfoldable pub endpointIn : List ℕ → Endpoint
+endpointIn r =
+    record {
+      seid = record { 0 = getD r 0 0 };
+      state = stateIn (getD r 1 0);
+      channel = channelIn (getD r 2 0);
+      far = record { 0 = getD r 3 0 };
+      delay = delayIn (getD r 4 0) (pairIn (getD r 5 0) (getD r 6 0));
+      config = take (getD r 7 0) (drop 8 r)
+    }
+
+-- octets that no stored record has
+unfoldable pub recordRight : List ℕ → Bool
+recordRight r =
+    leb (getD r 1 0) 5 && leb (getD r 2 0) 2
+    && (eqb (getD r 4 0) 1 || (eqb (getD r 4 0) 0 && eqb (getD r 5 0) 0 && eqb (getD r 6 0) 0))
+    && leb (getD r 7 0) 64
+
+unfoldable pub headOf : Endpoint → List ℕ
+headOf e =
+    e .seid .0 ∷ stateOctet (e .state) ∷ channelOctet (e .channel) ∷ e .far .0 ∷ delayMark (e .delay)
+    ∷ delayTenths (e .delay) / 256 ∷ delayTenths (e .delay) % 256 ∷ length (e .config) ∷ []
+
+unfoldable pub storeEnd : Endpoint → List ℕ → List ℕ
+storeEnd e r = front (headOf e ++ e .config) r
+
+-- ---- All records
+
+unfoldable pub endsIn : ℕ → List ℕ → Ends
+endsIn zero l = []
+endsIn (suc n) l = endpointIn (take recordRoom l) ∷ endsIn n (drop recordRoom l)
+
+unfoldable pub recordsRight : ℕ → List ℕ → Bool
+recordsRight zero l = true
+recordsRight (suc n) l = recordRight (take recordRoom l) && recordsRight n (drop recordRoom l)
+
+unfoldable pub storeEnds : Ends → List ℕ → List ℕ
+storeEnds [] l = l
+storeEnds (e ∷ ends) l = storeEnd e (take recordRoom l) ++ storeEnds ends (drop recordRoom l)
+
+-- ---- The gathering
+
+unfoldable pub gatheringAt : List ℕ → Gathering
+gatheringAt l =
+    record {
+      message =
+        record {
+          label = getD l 1 0;
+          type = getD l 2 0;
+          signal = getD l 3 0;
+          payload = take (pairIn (getD l 6 0) (getD l 7 0)) (drop 8 l)
+        };
+      count = getD l 4 0;
+      parts = getD l 5 0
+    }
+
+unfoldable pub gatheringIn : List ℕ → Option Gathering
+gatheringIn l = if eqb (getD l 0 0) 0 then none else some (gatheringAt l)
+
+unfoldable pub gatheringOctetsRight : List ℕ → Bool
+gatheringOctetsRight l = eqb (getD l 0 0) 0 || (eqb (getD l 0 0) 1 && leb (pairIn (getD l 6 0) (getD l 7 0)) longest)
+
+unfoldable pub gatheringHead : Gathering → List ℕ
+gatheringHead g =
+    1 ∷ g .message .label ∷ g .message .type ∷ g .message .signal ∷ g .count ∷ g .parts
+    ∷ length (g .message .payload) / 256 ∷ length (g .message .payload) % 256 ∷ []
+
+unfoldable pub storeGathering : Option Gathering → List ℕ → List ℕ
+storeGathering none l = front (0 ∷ []) l
+storeGathering (some g) l = front (gatheringHead g ++ g .message .payload) l
+
+-- ---- The connection
+
+unfoldable pub connectionIn : ℕ → List ℕ → Connection
+connectionIn n l =
+    record { ends = endsIn n (drop gatheringRoom l); gathering = gatheringIn (take gatheringRoom l) }
+
+unfoldable pub store : Connection → List ℕ → List ℕ
+store c l = storeGathering (c .gathering) (take gatheringRoom l) ++ storeEnds (c .ends) (drop gatheringRoom l)
+
+-- Number 12 is given where this is false: too short an area, octets that mean nothing, or a connection that is not legal.
+unfoldable pub savedRight : Book → List ℕ → Bool
+savedRight book l =
+    leb (areaFor (length book)) (length l) && gatheringOctetsRight (take gatheringRoom l)
+    && recordsRight (length book) (drop gatheringRoom l) && legal book (connectionIn (length book) l)

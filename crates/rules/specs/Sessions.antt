@@ -1,0 +1,60 @@
+-- Sequences of the host's calls over one book and one saved area.
+use Prim.Native.Nat.{ℕ}
+use mathlib.Core.List.{List, [], _∷_}
+use Rattle.rules.specs.Packets.{Message}
+use Rattle.rules.specs.Host.{checkCall, Kept, freshCall, Told, Answered, packetCall, eventCall, settingsCall, Heard, delayCall, packetsCall, Cut, cutCall}
+use Rattle.rules.specs.declared.OurSeid.{OurSeid}
+use Rattle.rules.specs.declared.Event.{Event}
+
+pub data Call : Type 0 where
+  check : Call
+  fresh : Call
+  -- packet size, packet, reply area
+  packet : ℕ → List ℕ → List ℕ → Call
+  event : Event → Call
+  -- the number of a settings question; what is shown is no part of a sequence
+  settingsTold : OurSeid → Call
+  delay : OurSeid → Call
+  packets : ℕ → ℕ → Call
+  -- packet size, message, packet number, area
+  cut : ℕ → Message → ℕ → List ℕ → Call
+
+pub data Answer : Type 0 where
+  number : ℕ → Answer
+  -- what is told of a packet, and the reply area at exit
+  told : Told → List ℕ → Answer
+  heard : Heard → Answer
+  cutOff : Cut → Answer
+
+-- one call: its answer, and the saved area at exit
+pub record Done : Type 0 where
+  pub answer : Answer
+  pub saved : List ℕ
+
+unfoldable pub kept : Kept → Done
+kept k = record { answer = number (k .number); saved = k .saved }
+
+unfoldable pub answered : Answered → Done
+answered a = record { answer = told (a .told) (a .reply); saved = a .saved }
+
+unfoldable pub asked : List ℕ → Answer → Done
+asked saved a = record { answer = a; saved = saved }
+
+unfoldable pub call : List ℕ → List ℕ → Call → Done
+call book saved check = asked saved (number (checkCall book))
+call book saved fresh = kept (freshCall book saved)
+call book saved (packet size p reply) = answered (packetCall book size saved p reply)
+call book saved (event e) = kept (eventCall book saved e)
+call book saved (settingsTold s) = asked saved (number (settingsCall book saved s .number))
+call book saved (delay s) = asked saved (heard (delayCall book saved s))
+call book saved (packets size n) = asked saved (number (packetsCall size n))
+call book saved (cut size m k area) = asked saved (cutOff (cutCall size m k area))
+
+-- the answers of a sequence, and the saved area after it
+unfoldable pub answers : List ℕ → List ℕ → List Call → List Answer
+answers book saved [] = []
+answers book saved (c ∷ calls) = call book saved c .answer ∷ answers book (call book saved c .saved) calls
+
+unfoldable pub after : List ℕ → List ℕ → List Call → List ℕ
+after book saved [] = saved
+after book saved (c ∷ calls) = after book (call book saved c .saved) calls
