@@ -1,2 +1,5 @@
 pub mod Tests
 pub mod Traces
+pub mod Moves
+pub mod Refused
+pub mod Instances

@@ -9,5 +9,6 @@ pub mod Commands
 pub mod Host
 pub mod Sessions
 pub mod Alike
+pub mod Moves
 pub mod Computed
 pub mod Table

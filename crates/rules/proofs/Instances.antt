@@ -1,0 +1,59 @@
+-- The hypotheses of the theorems can be met: one computed case for each.
+use Prim.Native.Nat.{ℕ}
+use mathlib.Core.Path.{_≡_, refl}
+use mathlib.Core.List.{List, [], _∷_}
+use mathlib.Core.Bool.{Bool, true, false}
+use native.Mathlib.Omega.{arith}
+use lib.ListN.{replicate}
+use Rattle.rules.specs.Computed.{computed}
+use Rattle.rules.specs.Book.{bookOf}
+use Rattle.rules.specs.Packets.{Message}
+use Rattle.rules.specs.Endpoints.{Ends, Endpoint}
+use Rattle.rules.specs.Commands.{answer, mayStart}
+use Rattle.rules.specs.Host.{packetCall, nothingSaid, Answered}
+use Rattle.rules.specs.Moves.{Stopped, isAccept, turns}
+use Rattle.rules.specs.Table.{traceBook}
+use Rattle.rules.specs.declared.State.the-variants.{Idle, Open, Streaming}
+use Rattle.rules.specs.declared.Channel.the-variants.{Absent, Up}
+use Rattle.rules.specs.declared.Delay.the-variants.{Unreported}
+use Rattle.rules.proofs.Moves.{start-stops, unmoved}
+use Rattle.rules.proofs.Refused.{refused-packet, silent-packet}
+
+-- the trace book's endpoints, the first open with its channel up, the second idle
+pub openAndIdle : Ends
+openAndIdle =
+    record {
+      seid = record { 0 = 1 };
+      state = Open;
+      channel = Up;
+      far = record { 0 = 1 };
+      delay = Unreported;
+      config = 0x01 ∷ 0x00 ∷ 0x07 ∷ 0x06 ∷ 0x00 ∷ 0x00 ∷ 0x21 ∷ 0x15 ∷ 0x02 ∷ 0x35 ∷ []
+    }
+    ∷ record {
+      seid = record { 0 = 5 };
+      state = Idle;
+      channel = Absent;
+      far = record { 0 = 0 };
+      delay = Unreported;
+      config = []
+    }
+    ∷ []
+
+-- a Start of both stops at the second
+pub start-of-both : Stopped mayStart Streaming (bookOf traceBook) openAndIdle (0x04 ∷ 0x14 ∷ [])
+  (answer (bookOf traceBook) openAndIdle (record { label = 8; type = 0; signal = 0x07; payload = 0x04 ∷ 0x14 ∷ [] }))
+unfolding computed traceBook openAndIdle isAccept
+start-of-both = start-stops (bookOf traceBook) openAndIdle 8 0x04 (0x14 ∷ []) refl
+
+-- an Open of the second is rejected and moves none
+pub open-of-idle :
+  answer (bookOf traceBook) openAndIdle (record { label = 8; type = 0; signal = 0x06; payload = 0x14 ∷ [] }) .ends ≡ openAndIdle
+unfolding computed traceBook openAndIdle isAccept turns
+open-of-idle = unmoved (bookOf traceBook) openAndIdle (record { label = 8; type = 0; signal = 0x06; payload = 0x14 ∷ [] }) refl refl
+
+-- a packet size of 47 is refused with 8
+pub size-refused : packetCall traceBook 47 [] (0x10 ∷ 0x01 ∷ []) (replicate 64 0xEE)
+  ≡ record { told = nothingSaid 8; saved = []; reply = replicate 64 0xEE }
+unfolding computed traceBook
+size-refused = refused-packet traceBook 47 [] (0x10 ∷ 0x01 ∷ []) (replicate 64 0xEE) (λ (e : _≡_ {A = ℕ} 8 0). omega arith)
