@@ -179,7 +179,7 @@ module _ (book : Book) (ends : Ends) (p : List ℕ) where
 
   of-capabilities : (shown : Entry → List ℕ) → Unmoved ends (capabilities shown book ends p)
   unfolding capabilities
-  of-capabilities shown = by-endpoint ends _ _ book p _ (λ i n. by-staying ends _)
+  of-capabilities shown = by-endpoint ends _ _ book _ _ (λ i n. by-staying ends _)
 
   of-set-at : (i : ℕ) (n : Entry) → Unmoved ends (setAt ends p i n)
   unfolding setAt

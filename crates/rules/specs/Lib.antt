@@ -3,6 +3,7 @@ pub mod Elements
 pub mod Book
 pub mod Packets
 pub mod Cutting
+pub mod Gathered
 pub mod Endpoints
 pub mod Saved
 pub mod Commands
