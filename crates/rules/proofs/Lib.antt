@@ -1,5 +1,7 @@
 pub mod Tests
 pub mod Traces
+pub mod Lists
+pub mod Storable
 pub mod Pieces
 pub mod ReadsBack
 pub mod SavedReads
