@@ -8,3 +8,13 @@ pub mod SavedReads
 pub mod Moves
 pub mod Refused
 pub mod Instances
+pub mod Places
+pub mod RightBook
+pub mod Outcomes
+pub mod LegalMoves
+pub mod CommandsLegal
+pub mod RightMessages
+pub mod StaysLegal
+pub mod ShortReplies
+pub mod SavedStaysRight
+pub mod Never12

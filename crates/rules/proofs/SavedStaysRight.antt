@@ -1,0 +1,146 @@
+-- No call of the host makes a right saved area wrong: a legal connection that is stored reads back as it was, and every step on a
+-- legal one leaves a legal one.
+use Prim.Native.Nat.{ℕ, zero, suc, _≤_}
+use native.Mathlib.Omega.{arith}
+use mathlib.Core.Path.{_≡_, refl}
+use mathlib.Core.List.{List, [], _∷_}
+use mathlib.Core.Bool.{true}
+use mathlib.Core.Option.{Option, none, some}
+use lib.ListN.{length, replicate}
+use lib.Dec.{leb, ltb, eqb}
+use borrow.Author.Tests.{leb-true, le-leb, ltb-false, eqb-true, eqb-false}
+use Rattle.rules.specs.Octets.{if_then_else_}
+use Rattle.rules.specs.Book.{Book, bookNumber, bookOf}
+use Rattle.rules.specs.Packets.{Gathering, gatheringRight, longest}
+use Rattle.rules.specs.Endpoints.{Connection, legal, legalGathering, freshConnection, happens}
+use Rattle.rules.specs.Saved.{areaFor, connectionIn, store, savedRight}
+use Rattle.rules.specs.Host.{numberOr, refusalOf, packetRefusal, Kept, freshCall, Answered, packetCall, eventCall}
+use Rattle.rules.specs.Computed.{computed}
+use Rattle.rules.specs.Table.{traceBook}
+use Rattle.rules.specs.Sessions.{Call, check, fresh, packet, event, settingsTold, delay, packets, cut, kept}
+use Rattle.rules.specs.Sessions.{answered, asked, call, after}
+use Rattle.rules.specs.declared.Event.{Event}
+use Rattle.rules.proofs.Tests.{and-l, and-r}
+use Rattle.rules.proofs.SavedReads.{PayloadFits, Roomy, length-store, reads-stored, stored-octets-right}
+use Rattle.rules.proofs.Places.{legal-length}
+use Rattle.rules.proofs.RightBook.{RightBook, right-book, not-failed}
+use Rattle.rules.proofs.Outcomes.{if-arms}
+use Rattle.rules.proofs.StaysLegal.{legal-ends, legal-gathering, fresh-legal, takes-legal, happens-legal}
+use Rattle.rules.proofs.ShortReplies.{config-short}
+
+-- ---- Storing a legal connection
+
+payload-fits : (g : Option Gathering) → legalGathering g ≡ true → PayloadFits g
+unfolding legalGathering gatheringRight longest
+payload-fits none h = tt
+payload-fits (some g) h = leb-true (length (g .message .payload)) 512 (search (and-l, and-r) depth 7)
+
+module _ (book : Book) (c : Connection) (l : List ℕ) (right : RightBook book) (area : areaFor (length book) ≤ length l)
+    (h : legal book c ≡ true) where
+  same-count : length (c .ends) ≡ length book
+  same-count = legal-length book (c .ends) (legal-ends book c h .every)
+
+  pub legal-roomy : Roomy c l
+  legal-roomy =
+      record {
+        area = rw same-count area;
+        configs = config-short book (c .ends) (right .entries) (legal-ends book c h .every);
+        payload = payload-fits (c .gathering) (legal-gathering book c h)
+      }
+
+  pub stored-right : savedRight book (store c l) ≡ true
+  unfolding savedRight
+  stored-right =
+      let fits : leb (areaFor (length (c .ends))) (length (store c l)) ≡ true =
+            le-leb (areaFor (length (c .ends))) (length (store c l)) (rw (length-store c l legal-roomy, same-count) area) in
+      let octets = stored-octets-right c l legal-roomy in
+      let reads : legal book (connectionIn (length (c .ends)) (store c l)) ≡ true = rw (reads-stored c l legal-roomy) h in
+      rw (← same-count) (rw (fits, octets .0, octets .1, reads))
+
+-- what a right area says
+module _ (book : Book) (l : List ℕ) (h : savedRight book l ≡ true) where
+  pub right-long : areaFor (length book) ≤ length l
+  unfolding savedRight
+  right-long = leb-true (areaFor (length book)) (length l) (search (and-l, and-r))
+
+  pub right-legal : legal book (connectionIn (length book) l) ≡ true
+  unfolding savedRight
+  right-legal = search (and-l, and-r)
+
+-- ---- Each call
+
+module _ (b saved : List ℕ) (right : bookNumber b ≡ 0) (h : savedRight (bookOf b) saved ≡ true) where
+  store-right : (c : Connection) → legal (bookOf b) c ≡ true → savedRight (bookOf b) (store c saved) ≡ true
+  store-right c l = stored-right (bookOf b) c saved (right-book b right) (right-long (bookOf b) saved h) l
+
+  fresh-keeps : savedRight (bookOf b) (freshCall b saved .saved) ≡ true
+  unfolding freshCall
+  fresh-keeps =
+      if-arms (λ (k : Kept). savedRight (bookOf b) (k .saved) ≡ true)
+        (eqb (numberOr (bookNumber b) (if ltb (length saved) (areaFor (length (bookOf b))) then 12 else 0)) 0) _ _
+        (λ t. store-right (freshConnection (bookOf b)) (fresh-legal (bookOf b))) (λ f. h)
+
+  packet-keeps : (size : ℕ) (p reply : List ℕ) → savedRight (bookOf b) (packetCall b size saved p reply .saved) ≡ true
+  unfolding packetCall
+  packet-keeps size p reply =
+      if-arms (λ (a : Answered). savedRight (bookOf b) (a .saved) ≡ true) (eqb (packetRefusal b size saved reply) 0) _ _
+        (λ t. store-right _ (takes-legal (bookOf b) size _ p (right-legal (bookOf b) saved h))) (λ f. h)
+
+  event-keeps : (e : Event) → savedRight (bookOf b) (eventCall b saved e .saved) ≡ true
+  unfolding eventCall
+  event-keeps e =
+      let c = connectionIn (length (bookOf b)) saved in
+      if-arms (λ (k : Kept). savedRight (bookOf b) (k .saved) ≡ true)
+        (eqb (numberOr (refusalOf b saved) (happens (bookOf b) c e .number)) 0) _ _
+        (λ t. store-right _ (happens-legal (bookOf b) c (right-legal (bookOf b) saved h) e)) (λ f. h)
+
+  pub stays-legal : (c : Call) → savedRight (bookOf b) (call b saved c .saved) ≡ true
+  unfolding call asked kept answered
+  stays-legal check = h
+  stays-legal fresh = fresh-keeps
+  stays-legal (packet size p reply) = packet-keeps size p reply
+  stays-legal (event e) = event-keeps e
+  stays-legal (settingsTold s) = h
+  stays-legal (delay s) = h
+  stays-legal (packets size n) = h
+  stays-legal (cut size m k area) = h
+
+pub always-legal : (b saved : List ℕ) → bookNumber b ≡ 0 → savedRight (bookOf b) saved ≡ true → (calls : List Call)
+    → savedRight (bookOf b) (after b saved calls) ≡ true
+unfolding after
+always-legal b saved right h [] = h
+always-legal b saved right h (c ∷ calls) =
+    always-legal b (call b saved c .saved) right (stays-legal b saved right h c) calls
+
+-- ---- A fresh area
+
+number-or-zero : (n next : ℕ) → numberOr n next ≡ 0 → (n ≡ 0) × (next ≡ 0)
+unfolding numberOr
+number-or-zero zero next e = (refl, e)
+number-or-zero (suc n) next e = absurd (omega arith)
+
+pub fresh-right : (b area : List ℕ) → freshCall b area .number ≡ 0 → savedRight (bookOf b) (freshCall b area .saved) ≡ true
+unfolding freshCall
+fresh-right b area =
+    let book = bookOf b in
+    let too-short = ltb (length area) (areaFor (length book)) in
+    let n = numberOr (bookNumber b) (if too-short then 12 else 0) in
+    if-arms (λ (k : Kept). k .number ≡ 0 → savedRight book (k .saved) ≡ true) (eqb n 0) _ _
+      (λ t z.
+        let both = number-or-zero (bookNumber b) _ (eqb-true n 0 t) in
+        let long = ltb-false (length area) (areaFor (length book)) (not-failed too-short 12 0 refl (both .1) .0) in
+        stored-right book (freshConnection book) area (right-book b (both .0)) long (fresh-legal book))
+      (λ f z. absurd (eqb-false n 0 f z))
+
+-- ---- The hypotheses can be met: the trace book is right, and so is an area once it is fresh
+
+pub trace-book-right : bookNumber traceBook ≡ 0
+unfolding computed traceBook
+trace-book-right = refl
+
+fresh-answers-0 : freshCall traceBook (replicate (areaFor 2) 0xDD) .number ≡ 0
+unfolding computed traceBook
+fresh-answers-0 = refl
+
+pub trace-area-right : savedRight (bookOf traceBook) (freshCall traceBook (replicate (areaFor 2) 0xDD) .saved) ≡ true
+trace-area-right = fresh-right traceBook (replicate (areaFor 2) 0xDD) fresh-answers-0
