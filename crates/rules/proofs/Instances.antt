@@ -1,23 +1,21 @@
 -- The hypotheses of the theorems can be met: one computed case for each.
 use Prim.Native.Nat.{ℕ}
 use mathlib.Core.Path.{_≡_, refl}
-use mathlib.Core.List.{List, [], _∷_}
-use mathlib.Core.Bool.{Bool, true, false}
+use mathlib.Core.List.{[], _∷_}
 use native.Mathlib.Omega.{arith}
 use lib.ListN.{replicate}
 use Rattle.rules.specs.Computed.{computed}
 use Rattle.rules.specs.Book.{bookOf}
-use Rattle.rules.specs.Packets.{Message}
-use Rattle.rules.specs.Endpoints.{Ends, Endpoint}
+use Rattle.rules.specs.Endpoints.{Ends}
 use Rattle.rules.specs.Commands.{answer, mayStart}
-use Rattle.rules.specs.Host.{packetCall, nothingSaid, Answered}
+use Rattle.rules.specs.Host.{packetCall, nothingSaid}
 use Rattle.rules.specs.Moves.{Stopped, isAccept, turns}
 use Rattle.rules.specs.Table.{traceBook}
 use Rattle.rules.specs.declared.State.the-variants.{Idle, Open, Streaming}
 use Rattle.rules.specs.declared.Channel.the-variants.{Absent, Up}
 use Rattle.rules.specs.declared.Delay.the-variants.{Unreported}
 use Rattle.rules.proofs.Moves.{start-stops, unmoved}
-use Rattle.rules.proofs.Refused.{refused-packet, silent-packet}
+use Rattle.rules.proofs.Refused.{refused-packet}
 
 -- the trace book's endpoints, the first open with its channel up, the second idle
 pub openAndIdle : Ends

@@ -5,9 +5,6 @@ pub mod Storable
 pub mod Pieces
 pub mod ReadsBack
 pub mod SavedReads
-pub mod Moves
-pub mod Refused
-pub mod Instances
 pub mod Places
 pub mod RightBook
 pub mod Outcomes
@@ -18,3 +15,12 @@ pub mod StaysLegal
 pub mod ShortReplies
 pub mod SavedStaysRight
 pub mod Never12
+pub mod Refused
+pub mod Moves
+pub mod View
+pub mod Seen
+pub mod AlikeStep
+pub mod QuietStep
+pub mod Quiet
+pub mod QuietExample
+pub mod Instances

@@ -2,9 +2,8 @@
 -- branches, each of which either accepts or leaves the endpoints as they were.
 use Prim.Native.Nat.{ℕ, zero, suc, _<_}
 use mathlib.Core.Path.{_≡_, refl, sym, ap, _∙_}
-use mathlib.Core.List.{List, [], _∷_, _++_}
+use mathlib.Core.List.{List, [], _∷_}
 use mathlib.Core.Bool.{Bool, true, false, not, _&&_, _||_}
-use mathlib.Core.Option.{Option, none, some}
 use lib.ListN.{length, getD, drop, set}
 use lib.Seq.{getD-set-same, getD-set-other, lt-length-set}
 use lib.Dec.{eqb, eqb·suc-zero}
@@ -12,10 +11,15 @@ use borrow.Author.Tests.{eqb-true, eqb-false}
 use Rattle.rules.specs.Octets.{if_then_else_, some-of}
 use Rattle.rules.specs.Elements.{items, settingFault, faultIn, reconfiguring}
 use Rattle.rules.specs.Book.{Entry, Book, Found, unknown, known, find, shownBy02, shownBy0C}
-use Rattle.rules.specs.Packets.{Message, gather}
-use Rattle.rules.specs.Endpoints.{Endpoint, Ends, Connection, endAt, inState, idle, isIdle, farRight, awaiting, takesDelay}
-use Rattle.rules.specs.Commands.{Reply, silence, generalReject, accept, reject, Outcome, stays, moves, foundOr, atEndpoint, ourIn, rejectSeid, turnOne, turnEach, turn, signalOf, obey, answer, discover, capabilities, setConfiguration, setAt, getConfiguration, reconfigure, reconfigureAt, openUp, close, abort, securityControl, delayReport, farIn, isConfigured, isOpen, isStreaming, isSet, mayStart, maySuspend}
-use Rattle.rules.specs.Moves.{movedOne, movedAll, mayOne, mayAll, failCode, standsAt, lists, movedIf, Stopped, turns, turnsIn, isAccept}
+use Rattle.rules.specs.Packets.{Message}
+use Rattle.rules.specs.Endpoints.{Endpoint, Ends, endAt, inState, idle, isIdle, farRight, awaiting, takesDelay}
+use Rattle.rules.specs.Commands.{Reply, silence, generalReject, accept, reject, Outcome, stays, moves, foundOr, atEndpoint}
+use Rattle.rules.specs.Commands.{ourIn, rejectSeid, turnOne, turnEach, turn, signalOf, obey, answer, discover, capabilities}
+use Rattle.rules.specs.Commands.{setConfiguration, setAt, getConfiguration, reconfigure, reconfigureAt, openUp, close}
+use Rattle.rules.specs.Commands.{abort, securityControl, delayReport, farIn, isConfigured, isOpen, isStreaming, isSet}
+use Rattle.rules.specs.Commands.{mayStart, maySuspend}
+use Rattle.rules.specs.Moves.{movedOne, movedAll, mayOne, mayAll, failCode, standsAt, lists, movedIf, Stopped, turns}
+use Rattle.rules.specs.Moves.{isAccept}
 use Rattle.rules.specs.declared.State.{State}
 use Rattle.rules.specs.declared.State.the-variants.{Open, Streaming}
 use Rattle.rules.proofs.Tests.{told, Told?, passed, failed, clash, and-l, and-r, and-both}

@@ -1,7 +1,7 @@
 -- A refusal changes no area and no connection, and silence writes nothing: each call ends in one test of its number, and the branch
 -- that answers has the number 0.
-use Prim.Native.Nat.{ℕ, zero, suc}
-use mathlib.Core.Path.{_≡_, refl, sym, ap, _∙_}
+use Prim.Native.Nat.{ℕ}
+use mathlib.Core.Path.{_≡_, refl, ap, _∙_}
 use mathlib.Core.List.{List, [], _∷_}
 use mathlib.Core.Bool.{Bool, true, false}
 use mathlib.Core.Option.{Option, none, some}
@@ -15,12 +15,14 @@ use Rattle.rules.specs.Cutting.{packetAt}
 use Rattle.rules.specs.Endpoints.{Ends, Connection, freshConnection, happens, endAt}
 use Rattle.rules.specs.Saved.{areaFor, connectionIn, store}
 use Rattle.rules.specs.Commands.{Reply, silence, generalReject, accept, reject, answer}
-use Rattle.rules.specs.Host.{numberOr, Told, nothingSaid, said, toldOf, payloadOf, Turn, turnOf, takes, packetRefusal, Answered, packetCall, Kept, freshCall, eventCall, Shown, shownAt, settingsCall, Heard, heard, heardAt, delayCall, refusalOf, Cut, cutRefusal, cutCall}
+use Rattle.rules.specs.Host.{numberOr, nothingSaid, said, toldOf, payloadOf, Turn, turnOf, takes, packetRefusal, Answered}
+use Rattle.rules.specs.Host.{packetCall, Kept, freshCall, eventCall, Shown, shownAt, settingsCall, Heard, heard, heardAt}
+use Rattle.rules.specs.Host.{delayCall, refusalOf, Cut, cutRefusal, cutCall}
 use Rattle.rules.specs.declared.OurSeid.{OurSeid}
 use Rattle.rules.specs.declared.Delay.{Delay}
 use Rattle.rules.specs.declared.Delay.the-variants.{Unreported, Reported}
 use Rattle.rules.specs.declared.Event.{Event}
-use Rattle.rules.proofs.Tests.{told, Told?, passed, failed}
+use Rattle.rules.proofs.Tests.{told}
 
 nothing-written : (area : List ℕ) → front [] area ≡ area
 unfolding front

@@ -1,11 +1,11 @@
 -- What a test that passed or failed tells, for the tests that the definitions are made of; each by cases on the test's value.
-use Prim.Native.Nat.{ℕ, zero, suc, _≤_, _<_}
-use mathlib.Core.Path.{_≡_, refl, sym, ap, ap₂, _∙_, subst}
+use Prim.Native.Nat.{ℕ, _≤_}
+use mathlib.Core.Path.{_≡_, refl, sym, ap, ap₂, _∙_}
 use mathlib.Core.List.{List, [], _∷_}
 use mathlib.Core.Bool.{Bool, true, false, not, _&&_, _||_, true≢false}
-use lib.Dec.{leb, ltb, eqb}
+use lib.Dec.{leb, eqb}
 use borrow.Author.Tests.{leb-true, eqb-true, eq-eqb, le-leb}
-use Rattle.rules.specs.Octets.{if_then_else_, between, sameOctets}
+use Rattle.rules.specs.Octets.{between, sameOctets}
 
 -- A test is true or false, with the equation at hand: match on `told t`.
 pub data Told? (b : Bool) : Type 0 where

@@ -1,8 +1,8 @@
 -- The tables of document 01 hold of the definitions: each is played over the host's calls and compared, octet for octet.
 use mathlib.Core.Path.{_≡_, refl}
-use mathlib.Core.List.{List, [], _∷_}
+use mathlib.Core.List.{[], _∷_}
 use Rattle.rules.specs.Computed.{computed}
-use Rattle.rules.specs.Table.{Row, played, playedFresh, aired, stateFound, traceBook, traceTable, cutLengths, hallTable}
+use Rattle.rules.specs.Table.{played, playedFresh, aired, stateFound, traceBook, traceTable, cutLengths, hallTable}
 
 pub traces : playedFresh traceBook 48 traceTable ≡ traceTable
 unfolding computed played playedFresh aired stateFound traceBook traceTable

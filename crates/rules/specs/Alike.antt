@@ -11,8 +11,8 @@ use Rattle.rules.specs.Octets.{if_then_else_, sameOctets, each-of}
 use Rattle.rules.specs.Elements.{items, has}
 use Rattle.rules.specs.Book.{Entry, Book, shownBy02}
 use Rattle.rules.specs.Packets.{Message, Gathering, gather, sizeRight}
-use Rattle.rules.specs.Endpoints.{Endpoint, Ends, isReported}
-use Rattle.rules.specs.Host.{Kept, freshCall, eventCall}
+use Rattle.rules.specs.Endpoints.{Ends, isReported}
+use Rattle.rules.specs.Host.{freshCall, eventCall}
 use Rattle.rules.specs.Sessions.{Call, check, fresh, packet, event, settingsTold, delay, packets, cut}
 use Rattle.rules.specs.declared.Event.{Event}
 use Rattle.rules.specs.declared.Event.the-variants.{Up, Down, Lost}

@@ -1,14 +1,15 @@
 -- Every command with its checks in order and what it does to the endpoints (document 01, Commands; 001, 8.6 to 8.19).
-use Prim.Native.Nat.{ℕ, zero, suc, _+_, _*_, _/_}
-use mathlib.Core.List.{List, [], _∷_, _++_}
+use Prim.Native.Nat.{ℕ, _+_, _*_, _/_}
+use mathlib.Core.List.{List, [], _∷_}
 use mathlib.Core.Bool.{Bool, true, false, not, _&&_, _||_}
 use lib.ListN.{length, drop, getD, set}
-use lib.Dec.{leb, ltb, eqb}
+use lib.Dec.{leb, eqb}
 use Rattle.rules.specs.Octets.{if_then_else_}
-use Rattle.rules.specs.Elements.{Item, items, Fault, setting, reconfiguring, faultIn, settingFault, stored, restored}
+use Rattle.rules.specs.Elements.{items, reconfiguring, faultIn, settingFault, stored, restored}
 use Rattle.rules.specs.Book.{Entry, Book, Found, unknown, known, find, shownBy02, shownBy0C}
 use Rattle.rules.specs.Packets.{Message}
-use Rattle.rules.specs.Endpoints.{Endpoint, Ends, isIdle, isUp, awaiting, takesDelay, farRight, inState, withChannel, withDelay, withConfig, leaving, endAt}
+use Rattle.rules.specs.Endpoints.{Endpoint, Ends, isIdle, isUp, awaiting, takesDelay, farRight, inState, withChannel}
+use Rattle.rules.specs.Endpoints.{withDelay, withConfig, leaving, endAt}
 use Rattle.rules.specs.Saved.{pairIn}
 use Rattle.rules.specs.declared.OurSeid.{OurSeid}
 use Rattle.rules.specs.declared.FarSeid.{FarSeid}

@@ -2,7 +2,6 @@
 -- stated over the sizes of the headers; AVDTP's are 2, 3 and 1.
 use Prim.Native.Nat.{ℕ, zero, suc, _+_, _-_, _*_, _/_}
 use mathlib.Core.List.{List, [], _∷_, _++_}
-use mathlib.Core.Bool.{Bool, true, false}
 use lib.ListN.{length, take, drop}
 use lib.Dec.{leb, ltb, eqb}
 use Rattle.rules.specs.Octets.{if_then_else_}

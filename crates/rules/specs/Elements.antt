@@ -2,8 +2,8 @@
 -- first failure, and what a stored configuration is.
 use Prim.Native.Nat.{ℕ, zero, suc, _/_, _*_}
 use mathlib.Core.List.{List, [], _∷_, _++_}
-use mathlib.Core.Bool.{Bool, true, false, not, _&&_, _||_}
-use lib.ListN.{length, take, drop, getD}
+use mathlib.Core.Bool.{Bool, true, false, not, _&&_}
+use lib.ListN.{length, take, getD}
 use lib.Dec.{leb, ltb, eqb}
 use lib.Bits.{bitAnd}
 use Rattle.rules.specs.Octets.{if_then_else_, sameOctets, member, some-of}

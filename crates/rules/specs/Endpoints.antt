@@ -1,10 +1,10 @@
 -- Endpoints and connections: when a connection is legal, and the link events (document 01, What the host is told and Commands).
-use Prim.Native.Nat.{ℕ, zero, suc, _+_}
+use Prim.Native.Nat.{ℕ, _+_}
 use mathlib.Core.List.{List, [], _∷_, map}
 use mathlib.Core.Bool.{Bool, true, false, not, _&&_, _||_}
 use mathlib.Core.Option.{Option, none, some}
-use lib.ListN.{length, getD, set}
-use lib.Dec.{leb, ltb, eqb}
+use lib.ListN.{getD, set}
+use lib.Dec.{leb, eqb}
 use Rattle.rules.specs.Octets.{if_then_else_, between, isEmpty}
 use Rattle.rules.specs.Elements.{items, has, couldStore}
 use Rattle.rules.specs.Book.{Entry, Book, isSource, Found, unknown, known, find}

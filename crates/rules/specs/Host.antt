@@ -1,18 +1,18 @@
 -- The host's calls: what each returns and what each lent area holds afterwards, refusals 1 to 12 in the stated order (document 01,
 -- What the host is told).
-use Prim.Native.Nat.{ℕ, zero, suc, _+_, _*_}
-use mathlib.Core.List.{List, [], _∷_, _++_}
-use mathlib.Core.Bool.{Bool, true, false, not, _&&_, _||_}
+use Prim.Native.Nat.{ℕ, zero, suc}
+use mathlib.Core.List.{List, []}
+use mathlib.Core.Bool.{Bool, true, false, not, _&&_}
 use mathlib.Core.Option.{Option, none, some}
 use lib.ListN.{length}
 use lib.Dec.{leb, ltb, eqb}
 use Rattle.rules.specs.Octets.{if_then_else_, front, isEmpty}
 use Rattle.rules.specs.Book.{Entry, Book, bookNumber, bookOf, Found, unknown, known, find}
-use Rattle.rules.specs.Packets.{Message, Gathering, Step, gather, sizeRight, longest}
+use Rattle.rules.specs.Packets.{Message, Gathering, gather, sizeRight, longest}
 use Rattle.rules.specs.Cutting.{avdtp, packetsFor, packetAt, countOf}
-use Rattle.rules.specs.Endpoints.{Endpoint, Ends, Connection, freshConnection, endAt, happens, isReported}
-use Rattle.rules.specs.Saved.{areaFor, connectionIn, store, savedRight, delayTenths}
-use Rattle.rules.specs.Commands.{Reply, silence, generalReject, accept, reject, Outcome, answer, stays}
+use Rattle.rules.specs.Endpoints.{Endpoint, Ends, Connection, freshConnection, endAt, happens}
+use Rattle.rules.specs.Saved.{areaFor, connectionIn, store, savedRight}
+use Rattle.rules.specs.Commands.{Reply, silence, generalReject, accept, reject, answer}
 use Rattle.rules.specs.declared.OurSeid.{OurSeid}
 use Rattle.rules.specs.declared.Delay.{Delay}
 use Rattle.rules.specs.declared.Delay.the-variants.{Unreported, Reported}

@@ -1,5 +1,5 @@
 -- Words for all that follows: choosing by a test, comparing octets, and what a lent area holds after a write.
-use Prim.Native.Nat.{ℕ, zero, suc}
+use Prim.Native.Nat.{ℕ}
 use mathlib.Core.List.{List, [], _∷_, _++_}
 use mathlib.Core.Bool.{Bool, true, false, _&&_, _||_}
 use lib.ListN.{length, drop}

@@ -2,10 +2,10 @@
 -- what of the octets counts (document 01, What the host is told: number 12; the layout is ours).
 use Prim.Native.Nat.{ℕ, zero, suc, _+_, _*_, _/_, _%_}
 use mathlib.Core.List.{List, [], _∷_, _++_}
-use mathlib.Core.Bool.{Bool, true, false, not, _&&_, _||_}
+use mathlib.Core.Bool.{Bool, true, _&&_, _||_}
 use mathlib.Core.Option.{Option, none, some}
 use lib.ListN.{length, take, drop, getD}
-use lib.Dec.{leb, ltb, eqb}
+use lib.Dec.{leb, eqb}
 use Rattle.rules.specs.Octets.{if_then_else_, front}
 use Rattle.rules.specs.Book.{Book}
 use Rattle.rules.specs.Packets.{Gathering, longest}

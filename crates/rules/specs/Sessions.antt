@@ -2,7 +2,8 @@
 use Prim.Native.Nat.{ℕ}
 use mathlib.Core.List.{List, [], _∷_}
 use Rattle.rules.specs.Packets.{Message}
-use Rattle.rules.specs.Host.{checkCall, Kept, freshCall, Told, Answered, packetCall, eventCall, settingsCall, Heard, delayCall, packetsCall, Cut, cutCall}
+use Rattle.rules.specs.Host.{checkCall, Kept, freshCall, Told, Answered, packetCall, eventCall, settingsCall, Heard}
+use Rattle.rules.specs.Host.{delayCall, packetsCall, Cut, cutCall}
 use Rattle.rules.specs.declared.OurSeid.{OurSeid}
 use Rattle.rules.specs.declared.Event.{Event}
 

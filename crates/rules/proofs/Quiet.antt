@@ -1,0 +1,187 @@
+-- Demand 3: both areas begin with the same fresh connection and go on to show one and the same connection, whose endpoints are
+-- quiet, so each call is answered alike.
+use Prim.Native.Nat.{ℕ}
+use mathlib.Core.Path.{_≡_, refl, sym, ap, ap₂, _∙_}
+use mathlib.Core.List.{List, [], _∷_}
+use mathlib.Core.Bool.{Bool, true, false, not, _&&_}
+use mathlib.Core.Option.{Option, none, some}
+use lib.ListN.{length}
+use lib.Dec.{leb, ltb, eqb}
+use borrow.Author.Tests.{ltb-true, ltb-false, lt-leb, le-leb}
+use Rattle.rules.proofs.Tests.{Told?, passed, failed, told, and-l, and-r, not-passed}
+use Rattle.rules.proofs.Outcomes.{if-arms}
+use Rattle.rules.proofs.AlikeStep.{AlikeBooks, alike-books, fresh-same, FoundAlike, both-unknown, both-known, find-alike}
+use Rattle.rules.proofs.AlikeStep.{answer-same, happens-same}
+use Rattle.rules.proofs.QuietStep.{quietEnds, quiet-unreported, fresh-quiet, answer-quiet, happens-quiet}
+use Rattle.rules.proofs.View.{packetNumber, says, goes, View, Stepped, view-step, begins-view}
+use Rattle.rules.specs.Octets.{if_then_else_}
+use Rattle.rules.specs.Book.{Book, Found, unknown, known, find, bookNumber, bookOf}
+use Rattle.rules.specs.Packets.{Message, Gathering, sizeRight, gather}
+use Rattle.rules.specs.Endpoints.{Ends, Connection, freshConnection, isUp, endAt, awaiting, withEnds, Moved}
+use Rattle.rules.specs.Endpoints.{downAt, happens}
+use Rattle.rules.specs.Saved.{connectionIn}
+use Rattle.rules.specs.Host.{turnOf, takes, shownAt, heardAt}
+use Rattle.rules.specs.Sessions
+use Rattle.rules.specs.Sessions.{Call, check, fresh, packet, event, settingsTold, delay, packets, cut, number, heard}
+use Rattle.rules.specs.Sessions.{call, after}
+use Rattle.rules.specs.Alike.{alike, usesIn, afterEvent, restrained, Begins, noneReported}
+use Rattle.rules.specs.declared.Event.{Event}
+use Rattle.rules.specs.declared.Event.the-variants.{Down, Lost}
+
+-- ---- One packet
+
+turn-same : {book book′ : Book} (ends : Ends) (g : Option Gathering) (m : Option Message) → AlikeBooks book book′
+    → usesIn m ≡ false → turnOf book ends g m ≡ turnOf book′ ends g m
+unfolding turnOf usesIn
+turn-same ends g none same unused = refl
+turn-same ends g (some m) same unused = rw (answer-same ends m same unused)
+
+turn-quiet : (book : Book) (ends : Ends) (g : Option Gathering) (m : Option Message) → quietEnds ends ≡ true
+    → usesIn m ≡ false → quietEnds (turnOf book ends g m .connection .ends) ≡ true
+unfolding turnOf usesIn
+turn-quiet book ends g none q unused = q
+turn-quiet book ends g (some m) q unused = answer-quiet book ends m q unused
+
+turn-gathering : (book : Book) (ends : Ends) (g : Option Gathering) (m : Option Message)
+    → turnOf book ends g m .connection .gathering ≡ g
+unfolding turnOf
+turn-gathering book ends g none = refl
+turn-gathering book ends g (some m) = refl
+
+-- a packet is taken where it is refused with neither 8 nor 9
+packet-taken : (size : ℕ) (reply : List ℕ) → eqb (packetNumber size reply) 0 ≡ (sizeRight size && leb 64 (length reply))
+unfolding packetNumber
+packet-taken size reply = go (sizeRight size) (told (ltb (length reply) 64))
+  where
+    go : (right : Bool) → Told? (ltb (length reply) 64)
+        → eqb (if not right then 8 else if ltb (length reply) 64 then 9 else 0) 0 ≡ (right && leb 64 (length reply))
+    go false t = refl
+    go true (passed few) = rw (few, lt-leb 64 (length reply) (ltb-true (length reply) 64 few))
+    go true (failed enough) = rw (enough, le-leb 64 (length reply) (ltb-false (length reply) 64 enough))
+
+-- ---- One event, one question
+
+down-gathering : (f : Found) (c : Connection) → downAt f c .connection .gathering ≡ c .gathering
+unfolding downAt withEnds
+down-gathering unknown c = refl
+down-gathering (known i n) c =
+    if-arms (λ (m : Moved). m .connection .gathering ≡ c .gathering) (isUp (endAt (c .ends) i .channel)) _ _
+      (λ up. refl) (λ down. refl)
+
+happens-gathering : (book : Book) (c : Connection) (v : Event)
+    → happens book c v .connection .gathering ≡ afterEvent (c .gathering) v
+unfolding happens afterEvent withEnds
+happens-gathering book c Event.Up =
+    if-arms (λ (m : Moved). m .connection .gathering ≡ c .gathering) (eqb (awaiting (c .ends)) 0) _ _
+      (λ nobody. refl) (λ somebody. refl)
+happens-gathering book c (Down s) = down-gathering (find s book) c
+happens-gathering book c Lost = refl
+
+shown-same : (f f′ : Found) (ends : Ends) → FoundAlike f f′ → shownAt f ends .number ≡ shownAt f′ ends .number
+unfolding shownAt
+shown-same f f′ ends both-unknown = refl
+shown-same f f′ ends (both-known i n n′ e) = refl
+
+heard-same : (f f′ : Found) (ends : Ends) → FoundAlike f f′ → heardAt f ends ≡ heardAt f′ ends
+unfolding heardAt
+heard-same f f′ ends both-unknown = refl
+heard-same f f′ ends (both-known i n n′ e) = refl
+
+-- ---- One call over the connection: it is the same for books alike, and the far end stays restrained
+
+record Paced (book book′ : Book) (c : Connection) (k : Call) (calls : List Call) : Type 0 where
+  said : says book c k ≡ says book′ c k
+  gone : goes book c k ≡ goes book′ c k
+  still : quietEnds (goes book c k .ends) ≡ true
+  restrains : restrained (goes book c k .gathering) calls ≡ true
+
+module _ {book book′ : Book} (same : AlikeBooks book book′) (c : Connection) (q : quietEnds (c .ends) ≡ true)
+    (calls : List Call) where
+  packet-paced : (size : ℕ) (p reply : List ℕ) → Told? (eqb (packetNumber size reply) 0)
+      → restrained (c .gathering) (packet size p reply ∷ calls) ≡ true → Paced book book′ c (packet size p reply) calls
+  unfolding restrained says goes takes
+  packet-paced size p reply (passed taken) r =
+      let s = gather size (c .gathering) p in
+      let heeds : not (usesIn (s .done)) && restrained (s .gathering) calls ≡ true = rw (← packet-taken size reply, taken) at r in
+      let unused = not-passed (usesIn (s .done)) (and-l (not (usesIn (s .done))) (restrained (s .gathering) calls) heeds) in
+      let turns = turn-same (c .ends) (s .gathering) (s .done) same unused in
+      record {
+        said = rw (taken, turns);
+        gone = rw (taken, turns);
+        still = rw taken (turn-quiet book (c .ends) (s .gathering) (s .done) q unused);
+        restrains = rw (taken, turn-gathering book (c .ends) (s .gathering) (s .done))
+                      (and-r (not (usesIn (s .done))) (restrained (s .gathering) calls) heeds)
+      }
+  packet-paced size p reply (failed refused) r =
+      record {
+        said = rw refused;
+        gone = rw refused;
+        still = rw refused q;
+        restrains = rw refused (rw (← packet-taken size reply, refused) at r)
+      }
+
+  paced : (k : Call) → restrained (c .gathering) (k ∷ calls) ≡ true → Paced book book′ c k calls
+  unfolding restrained says goes freshConnection
+  paced check r = record { said = refl; gone = refl; still = q; restrains = r }
+  paced fresh r = record { said = refl; gone = fresh-same same; still = fresh-quiet book; restrains = r }
+  paced (packet size p reply) r = packet-paced size p reply (told (eqb (packetNumber size reply) 0)) r
+  paced (event v) r =
+      record {
+        said = ap (λ (m : Moved). number (m .number)) (happens-same c v same);
+        gone = ap (λ (m : Moved). m .connection) (happens-same c v same);
+        still = happens-quiet book c v q;
+        restrains = rw (happens-gathering book c v) r
+      }
+  paced (settingsTold s) r =
+      record { said = ap number (shown-same _ _ (c .ends) (find-alike s same)); gone = refl; still = q; restrains = r }
+  paced (delay s) r =
+      record { said = ap heard (heard-same _ _ (c .ends) (find-alike s same)); gone = refl; still = q; restrains = r }
+  paced (packets size n) r = record { said = refl; gone = refl; still = q; restrains = r }
+  paced (cut size m i area) r = record { said = refl; gone = refl; still = q; restrains = r }
+
+-- ---- Sequences over octets
+
+pub record Alike (b b′ s s′ : List ℕ) (calls : List Call) : Type 0 where
+  pub answers : Sessions.answers b s calls ≡ Sessions.answers b′ s′ calls
+  pub connections :
+    connectionIn (length (bookOf b)) (after b s calls) ≡ connectionIn (length (bookOf b′)) (after b′ s′ calls)
+  pub unreported : noneReported (connectionIn (length (bookOf b)) (after b s calls) .ends) ≡ true
+
+alike-more : (b b′ s s′ : List ℕ) (c : Connection) (k : Call) (calls : List Call) → Stepped b s c k → Stepped b′ s′ c k
+    → Paced (bookOf b) (bookOf b′) c k calls → Alike b b′ (call b s k .saved) (call b′ s′ k .saved) calls
+    → Alike b b′ s s′ (k ∷ calls)
+unfolding Sessions.answers after
+alike-more b b′ s s′ c k calls step step′ pace rest =
+    record {
+      answers = ap₂ _∷_ (step .answer ∙ pace .said ∙ sym (step′ .answer)) (rest .answers);
+      connections = rest .connections;
+      unreported = rest .unreported
+    }
+
+module _ (b b′ : List ℕ) (ok : bookNumber b ≡ 0) (ok′ : bookNumber b′ ≡ 0) (same : AlikeBooks (bookOf b) (bookOf b′)) where
+  alike-on : (calls : List Call) (s s′ : List ℕ) (c : Connection) → View b s c → View b′ s′ c → quietEnds (c .ends) ≡ true
+      → restrained (c .gathering) calls ≡ true → Alike b b′ s s′ calls
+  unfolding Sessions.answers after
+  alike-on [] s s′ c v v′ q r =
+      record {
+        answers = refl;
+        connections = v .shows ∙ sym (v′ .shows);
+        unreported = rw (v .shows) (quiet-unreported (c .ends) q)
+      }
+  alike-on (k ∷ calls) s s′ c v v′ q r =
+      let step = view-step b ok s c v k in
+      let step′ = view-step b′ ok′ s′ c v′ k in
+      let pace = paced same c q calls k r in
+      alike-more b b′ s s′ c k calls step step′ pace
+        (alike-on calls (call b s k .saved) (call b′ s′ k .saved) (goes (bookOf b) c k) (step .next)
+           (rw (pace .gone) (step′ .next)) (pace .still) (pace .restrains))
+
+-- Two bridges whose books differ only in which endpoints offer delay reporting, each fresh or just lost, behave alike towards a
+-- far end that never uses delay reporting, and no endpoint shows a reported delay.
+pub quiet : (b b′ s s′ : List ℕ) (calls : List Call) → bookNumber b ≡ 0 → bookNumber b′ ≡ 0
+    → alike (bookOf b) (bookOf b′) ≡ true → Begins b s → Begins b′ s′ → restrained none calls ≡ true → Alike b b′ s s′ calls
+unfolding freshConnection
+quiet b b′ s s′ calls ok ok′ e begins begins′ r =
+    let same = alike-books (bookOf b) (bookOf b′) e in
+    alike-on b b′ ok ok′ same calls s s′ (freshConnection (bookOf b)) (begins-view b s ok begins)
+      (rw (fresh-same same) (begins-view b′ s′ ok′ begins′)) (fresh-quiet (bookOf b)) r

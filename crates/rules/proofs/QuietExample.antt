@@ -1,0 +1,90 @@
+-- The hypotheses of `quiet` can be met: the book of the traces, just lost after a delay was reported, and the same book without
+-- delay reporting, fresh, meet an old headset that streams; all is computed.
+use Prim.Native.Nat.{ℕ}
+use mathlib.Core.Path.{_≡_, refl}
+use mathlib.Core.List.{List, [], _∷_}
+use mathlib.Core.Bool.{true}
+use mathlib.Core.Option.{none}
+use lib.ListN.{replicate}
+use Rattle.rules.proofs.SavedStaysRight.{trace-book-right}
+use Rattle.rules.proofs.Quiet.{Alike, quiet}
+use Rattle.rules.specs.Book.{bookNumber, bookOf}
+use Rattle.rules.specs.Endpoints.{endAt}
+use Rattle.rules.specs.Saved.{connectionIn}
+use Rattle.rules.specs.Host.{freshCall, eventCall, delayCall}
+use Rattle.rules.specs.Sessions.{Call, packet, event, delay, after}
+use Rattle.rules.specs.Alike.{alikeEntry, alike, usesDelay, usesIn, afterEvent, restrained, Begins, begun, lost}
+use Rattle.rules.specs.Computed.{computed}
+use Rattle.rules.specs.Table.{traceBook, replyArea, setConfiguration1}
+use Rattle.rules.specs.declared.State.the-variants.{Streaming}
+use Rattle.rules.specs.declared.Event.{Event}
+use Rattle.rules.specs.declared.Event.the-variants.{Lost}
+
+-- entry 1 has no category 8
+unfoldable pub plainBook : List ℕ
+plainBook =
+    0x48 ∷ 0x4C ∷ 0x42 ∷ 0x00 ∷ 0x01 ∷ 0x02
+    ∷ 0x01 ∷ 0x00 ∷ 0x0A ∷ 0x01 ∷ 0x00 ∷ 0x07 ∷ 0x06 ∷ 0x00 ∷ 0x00 ∷ 0xFF ∷ 0xFF ∷ 0x02 ∷ 0x35
+    ∷ 0x05 ∷ 0x08 ∷ 0x0A ∷ 0x01 ∷ 0x00 ∷ 0x07 ∷ 0x06 ∷ 0x00 ∷ 0x00 ∷ 0xFF ∷ 0xFF ∷ 0x02 ∷ 0x35 ∷ []
+
+-- Discover, Get Capabilities, Set Configuration without category 8, Open, the channel comes up, Start, and the host asks for the
+-- delay.
+unfoldable pub headsetCalls : List Call
+headsetCalls =
+    packet 48 (0x10 ∷ 0x01 ∷ []) replyArea
+    ∷ packet 48 (0x20 ∷ 0x02 ∷ 0x04 ∷ []) replyArea
+    ∷ packet 48 (0x30 ∷ 0x03 ∷ 0x04 ∷ 0x04 ∷ 0x01 ∷ 0x00 ∷ 0x07 ∷ 0x06 ∷ 0x00 ∷ 0x00 ∷ 0x21 ∷ 0x15 ∷ 0x02 ∷ 0x35 ∷ []) replyArea
+    ∷ packet 48 (0x40 ∷ 0x06 ∷ 0x04 ∷ []) replyArea
+    ∷ event Event.Up
+    ∷ packet 48 (0x50 ∷ 0x07 ∷ 0x04 ∷ []) replyArea
+    ∷ delay (record { 0 = 1 })
+    ∷ []
+
+-- an area that was something else before, and one in which a delay of 1,500 tenths is reported
+abbrev pub usedArea : List ℕ
+usedArea = replicate 680 0xDD
+
+unfoldable pub delayedArea : List ℕ
+delayedArea =
+    after traceBook (freshCall traceBook usedArea .saved)
+      (packet 48 setConfiguration1 replyArea ∷ packet 48 (0x50 ∷ 0x0D ∷ 0x04 ∷ 0x05 ∷ 0xDC ∷ []) replyArea ∷ [])
+
+delay-was-reported : delayCall traceBook delayedArea (record { 0 = 1 }) .tenths ≡ 1500
+unfolding computed traceBook delayedArea
+delay-was-reported = refl
+
+plain-book-right : bookNumber plainBook ≡ 0
+unfolding computed plainBook
+plain-book-right = refl
+
+books-alike : alike (bookOf traceBook) (bookOf plainBook) ≡ true
+unfolding computed alike alikeEntry traceBook plainBook
+books-alike = refl
+
+abbrev pub lostArea : List ℕ
+lostArea = eventCall traceBook delayedArea Lost .saved
+
+abbrev pub freshArea : List ℕ
+freshArea = freshCall plainBook usedArea .saved
+
+trace-begins : Begins traceBook lostArea
+unfolding computed traceBook delayedArea
+trace-begins = lost delayedArea refl
+
+plain-begins : Begins plainBook freshArea
+unfolding computed plainBook
+plain-begins = begun usedArea refl
+
+calls-restrained : restrained none headsetCalls ≡ true
+unfolding computed restrained usesIn usesDelay afterEvent headsetCalls
+calls-restrained = refl
+
+pub headset-alike : Alike traceBook plainBook lostArea freshArea headsetCalls
+headset-alike =
+    quiet traceBook plainBook lostArea freshArea headsetCalls trace-book-right plain-book-right books-alike trace-begins
+      plain-begins calls-restrained
+
+-- and the headset does stream
+pub headset-streams : endAt (connectionIn 2 (after traceBook lostArea headsetCalls) .ends) 0 .state ≡ Streaming
+unfolding computed traceBook delayedArea headsetCalls
+headset-streams = refl

@@ -1,0 +1,84 @@
+-- The theorems on endpoints, of what the saved octets show: a call on a right area is a step of the connection that it shows.
+use Prim.Native.Nat.{ℕ}
+use mathlib.Core.Path.{_≡_, refl, ap, _∙_}
+use mathlib.Core.List.{List}
+use mathlib.Core.Bool.{true, false}
+use mathlib.Core.Option.{Option, none, some}
+use lib.ListN.{length}
+use lib.Dec.{eqb}
+use Rattle.rules.specs.Book.{Entry, Book, bookNumber, bookOf}
+use Rattle.rules.specs.Packets.{Message, Gathering, gather}
+use Rattle.rules.specs.Endpoints.{Ends, Connection, endAt, idle}
+use Rattle.rules.specs.Saved.{connectionIn, savedRight}
+use Rattle.rules.specs.Commands.{Reply, silence, generalReject, accept, reject, answer}
+use Rattle.rules.specs.Host.{toldOf, said, turnOf, takes, packetCall}
+use Rattle.rules.specs.Sessions.{Call, packet, Answer, number, told, heard, cutOff, call, answered, after}
+use Rattle.rules.specs.Moves.{isAccept, turnsIn}
+use Rattle.rules.specs.declared.State.the-variants.{Idle}
+use Rattle.rules.proofs.Tests.{Told?, passed, failed, told as told?}
+use Rattle.rules.proofs.Places.{At, legal-at}
+use Rattle.rules.proofs.StaysLegal.{legal-ends, idle-forgets}
+use Rattle.rules.proofs.SavedStaysRight.{always-legal, right-legal}
+use Rattle.rules.proofs.Moves.{unmoved}
+use Rattle.rules.proofs.View.{Stepped, packetNumber, says, goes, view-step}
+
+-- An endpoint that is idle after any calls has no configuration, no far SEID, no delay and no channel, whatever made it idle.
+pub idle-after : (b saved : List ℕ) → bookNumber b ≡ 0 → savedRight (bookOf b) saved ≡ true → (calls : List Call)
+  → (i : ℕ) (n : Entry) → At (bookOf b) i n
+  → let e = endAt (connectionIn (length (bookOf b)) (after b saved calls) .ends) i in e .state ≡ Idle → e ≡ idle (e .seid)
+idle-after b saved ok right calls i n place =
+    let book = bookOf b in
+    let c = connectionIn (length book) (after b saved calls) in
+    let lawful = legal-ends book c (right-legal book (after b saved calls) (always-legal b saved ok right calls)) in
+    idle-forgets n (endAt (c .ends) i) (legal-at place (c .ends) (lawful .every))
+
+-- not accepted: the message type is not 2
+type-of : (m : Message) (r : Reply) → (toldOf m r .type ≡ 2 → ⊥) → isAccept r ≡ false
+unfolding toldOf said isAccept
+type-of m silence h = refl
+type-of m generalReject h = refl
+type-of m (accept p) h = absurd (h refl)
+type-of m (reject p) h = refl
+
+turn-unmoved : (book : Book) (ends : Ends) (g : Option Gathering) (m : Option Message) → turnsIn m ≡ false
+  → (turnOf book ends g m .told .type ≡ 2 → ⊥) → turnOf book ends g m .connection .ends ≡ ends
+unfolding turnOf turnsIn
+turn-unmoved book ends g none t h = refl
+turn-unmoved book ends g (some m) t h = unmoved book ends m t (type-of m (answer book ends m .reply) h)
+
+takes-unmoved : (book : Book) (size : ℕ) (c : Connection) (p : List ℕ) → turnsIn (gather size (c .gathering) p .done) ≡ false
+  → (takes book size c p .told .type ≡ 2 → ⊥) → takes book size c p .connection .ends ≡ c .ends
+unfolding takes
+takes-unmoved book size c p =
+    turn-unmoved book (c .ends) (gather size (c .gathering) p .gathering) (gather size (c .gathering) p .done)
+
+-- the message type in an answer
+typeIn : Answer → ℕ
+typeIn (number n) = 0
+typeIn (told t reply) = t .type
+typeIn (heard h) = 0
+typeIn (cutOff c) = 0
+
+module _ (b : List ℕ) (size : ℕ) (saved p reply : List ℕ) (ok : bookNumber b ≡ 0) (right : savedRight (bookOf b) saved ≡ true) where
+  shown : Connection
+  shown = connectionIn (length (bookOf b)) saved
+
+  step : Stepped b saved shown (packet size p reply)
+  unfolding shown
+  step = view-step b ok saved shown (record { right = right; shows = refl }) (packet size p reply)
+
+  -- A packet that completes no Start and no Suspend and is not answered with an accept moves no endpoint.
+  packet-stays : Told? (eqb (packetNumber size reply) 0) → turnsIn (gather size (shown .gathering) p .done) ≡ false
+    → (packetCall b size saved p reply .told .type ≡ 2 → ⊥) → goes (bookOf b) shown (packet size p reply) .ends ≡ shown .ends
+  unfolding goes says call answered typeIn
+  packet-stays (failed refused) t h = rw refused
+  packet-stays (passed taken) t h =
+      rw taken (takes-unmoved (bookOf b) size shown p t (λ e. h (ap typeIn (step .answer) ∙ rw taken e)))
+
+  pub packet-unmoved : turnsIn (gather size (connectionIn (length (bookOf b)) saved .gathering) p .done) ≡ false
+    → (packetCall b size saved p reply .told .type ≡ 2 → ⊥)
+    → connectionIn (length (bookOf b)) (packetCall b size saved p reply .saved) .ends
+      ≡ connectionIn (length (bookOf b)) saved .ends
+  unfolding shown call answered
+  packet-unmoved t h =
+      ap (λ (c : Connection). c .ends) (step .next .shows) ∙ packet-stays (told? (eqb (packetNumber size reply) 0)) t h

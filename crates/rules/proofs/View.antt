@@ -1,0 +1,226 @@
+-- On a right book and a right area each call is a function of the connection that the area shows: of its refusals only 8, 9 and
+-- 10 can be given, and what it stores is read back.
+use Prim.Native.Nat.{ℕ, _≤_}
+use mathlib.Core.Path.{_≡_, refl, sym, ap, ap₂, _∙_, subst, subst₂}
+use mathlib.Core.List.{List, [], _∷_, map}
+use mathlib.Core.Bool.{true, false, not}
+use mathlib.Core.Option.{none}
+use lib.ListN.{length}
+use lib.Dec.{ltb, eqb}
+use native.Mathlib.Omega.{arith}
+use borrow.Author.Tests.{le-ltb, ltb-false, eqb-true}
+use Rattle.rules.proofs.Tests.{Told?, passed, failed, told as whether, clash, and-l, and-r}
+use Rattle.rules.proofs.SavedReads.{reads-stored}
+use Rattle.rules.proofs.Places.{legal-length}
+use Rattle.rules.proofs.RightBook.{right-book}
+use Rattle.rules.proofs.Outcomes.{if-arms}
+use Rattle.rules.proofs.StaysLegal.{legal-ends, fresh-legal, takes-legal, happens-legal}
+use Rattle.rules.proofs.SavedStaysRight.{legal-roomy, stored-right, right-long, right-legal}
+use Rattle.rules.specs.Octets.{if_then_else_, front}
+use Rattle.rules.specs.Book.{Entry, Book, Found, unknown, known, find, bookNumber, bookOf}
+use Rattle.rules.specs.Packets.{sizeRight}
+use Rattle.rules.specs.Endpoints.{Endpoint, Ends, Connection, idle, freshEnds, freshConnection, forgotten, isUp, endAt}
+use Rattle.rules.specs.Endpoints.{legalEnd, legalEnds, legal, awaiting, Moved, downAt, happens}
+use Rattle.rules.specs.Saved.{areaFor, connectionIn, store, savedRight}
+use Rattle.rules.specs.Host.{checkCall, numberOr, savedNumber, refusalOf, packetRefusal, Kept, freshCall, nothingSaid}
+use Rattle.rules.specs.Host.{takes, packetCall, eventCall, shownAt, settingsCall, heardAt, delayCall, packetsCall, cutCall}
+use Rattle.rules.specs.Sessions.{Call, check, fresh, packet, event, settingsTold, delay, packets, cut}
+use Rattle.rules.specs.Sessions.{Answer, number, told, heard, cutOff, Done, kept, answered, asked, call}
+use Rattle.rules.specs.Alike.{Begins, begun, lost}
+use Rattle.rules.specs.declared.OurSeid.{OurSeid}
+use Rattle.rules.specs.declared.Event.{Event}
+use Rattle.rules.specs.declared.Event.the-variants.{Down, Lost}
+
+-- ---- A call over the connection: what it says, and where the connection goes
+
+-- the refusals of a packet that are left
+unfoldable pub packetNumber : ℕ → List ℕ → ℕ
+packetNumber size reply = if not (sizeRight size) then 8 else if ltb (length reply) 64 then 9 else 0
+
+unfoldable pub says : Book → Connection → Call → Answer
+says book c check = number 0
+says book c fresh = number 0
+says book c (packet size p reply) =
+    if eqb (packetNumber size reply) 0 then told (takes book size c p .told) (front (takes book size c p .payload) reply)
+    else told (nothingSaid (packetNumber size reply)) reply
+says book c (event v) = number (happens book c v .number)
+says book c (settingsTold s) = number (shownAt (find s book) (c .ends) .number)
+says book c (delay s) = heard (heardAt (find s book) (c .ends))
+says book c (packets size n) = number (packetsCall size n)
+says book c (cut size m k area) = cutOff (cutCall size m k area)
+
+unfoldable pub goes : Book → Connection → Call → Connection
+goes book c check = c
+goes book c fresh = freshConnection book
+goes book c (packet size p reply) = if eqb (packetNumber size reply) 0 then takes book size c p .connection else c
+goes book c (event v) = happens book c v .connection
+goes book c (settingsTold s) = c
+goes book c (delay s) = c
+goes book c (packets size n) = c
+goes book c (cut size m k area) = c
+
+-- an event that is refused changes nothing
+down-refused : (f : Found) (c : Connection) → eqb (downAt f c .number) 0 ≡ false → downAt f c .connection ≡ c
+unfolding downAt
+down-refused unknown c = λ refused. refl
+down-refused (known i n) c =
+    if-arms (λ (m : Moved). eqb (m .number) 0 ≡ false → m .connection ≡ c) (isUp (endAt (c .ends) i .channel)) _ _
+      (λ up refused. clash refl refused) (λ down refused. refl)
+
+happens-refused : (book : Book) (c : Connection) (v : Event) → eqb (happens book c v .number) 0 ≡ false
+    → happens book c v .connection ≡ c
+unfolding happens
+happens-refused book c Event.Up =
+    if-arms (λ (m : Moved). eqb (m .number) 0 ≡ false → m .connection ≡ c) (eqb (awaiting (c .ends)) 0) _ _
+      (λ nobody refused. refl) (λ somebody refused. clash refl refused)
+happens-refused book c (Down s) = down-refused (find s book) c
+happens-refused book c Lost = λ refused. clash refl refused
+
+-- ---- A right area and the connection that it shows, before and after a call
+
+pub record View (b s : List ℕ) (c : Connection) : Type 0 where
+  pub right : savedRight (bookOf b) s ≡ true
+  pub shows : connectionIn (length (bookOf b)) s ≡ c
+
+pub record Stepped (b s : List ℕ) (c : Connection) (k : Call) : Type 0 where
+  pub answer : call b s k .answer ≡ says (bookOf b) c k
+  pub next : View b (call b s k .saved) (goes (bookOf b) c k)
+
+module _ (b : List ℕ) (ok : bookNumber b ≡ 0) where
+  stored-view : (c : Connection) (s : List ℕ) → legal (bookOf b) c ≡ true → areaFor (length (bookOf b)) ≤ length s
+      → View b (store c s) c
+  stored-view c s lawful long =
+      record {
+        right = stored-right (bookOf b) c s (right-book b ok) long lawful;
+        shows = rw (← legal-length (bookOf b) (c .ends) (legal-ends (bookOf b) c lawful .every))
+                  (reads-stored c s (legal-roomy (bookOf b) c s (right-book b ok) long lawful))
+      }
+
+  fresh-told : (s : List ℕ) → areaFor (length (bookOf b)) ≤ length s
+      → freshCall b s ≡ record { number = 0; saved = store (freshConnection (bookOf b)) s }
+  unfolding freshCall numberOr
+  fresh-told s long = rw (ok, le-ltb (length s) (areaFor (length (bookOf b))) long)
+
+  module _ (s : List ℕ) (c : Connection) (v : View b s c) where
+    long : areaFor (length (bookOf b)) ≤ length s
+    long = right-long (bookOf b) s (v .right)
+
+    lawful : legal (bookOf b) c ≡ true
+    lawful = rw (← v .shows) (right-legal (bookOf b) s (v .right))
+
+    no-refusal : refusalOf b s ≡ 0
+    unfolding refusalOf numberOr savedNumber
+    no-refusal = rw (ok, v .right)
+
+    packet-refusal : (size : ℕ) (reply : List ℕ) → packetRefusal b size s reply ≡ packetNumber size reply
+    unfolding packetRefusal packetNumber numberOr savedNumber
+    packet-refusal size reply = rw (ok, v .right)
+
+    step : (k : Call) (d : Done) → call b s k ≡ d → d .answer ≡ says (bookOf b) c k → View b (d .saved) (goes (bookOf b) c k)
+        → Stepped b s c k
+    step k d comes said next = record { answer = ap (λ (x : Done). x .answer) comes ∙ said; next = rw comes next }
+
+    fresh-step : Stepped b s c fresh
+    unfolding call kept says goes
+    fresh-step =
+        step fresh (kept (record { number = 0; saved = store (freshConnection (bookOf b)) s })) (ap kept (fresh-told s long)) refl
+          (stored-view (freshConnection (bookOf b)) s (fresh-legal (bookOf b)) long)
+
+    packet-step : (size : ℕ) (p reply : List ℕ) → Told? (eqb (packetNumber size reply) 0) → Stepped b s c (packet size p reply)
+    unfolding call answered says goes packetCall
+    packet-step size p reply (passed taken) =
+        let t = takes (bookOf b) size c p in
+        step (packet size p reply)
+          (answered (record { told = t .told; saved = store (t .connection) s; reply = front (t .payload) reply }))
+          (rw (packet-refusal size reply, taken, v .shows)) (rw taken)
+          (rw taken (stored-view (t .connection) s (takes-legal (bookOf b) size c p lawful) long))
+    packet-step size p reply (failed refused) =
+        step (packet size p reply) (answered (record { told = nothingSaid (packetNumber size reply); saved = s; reply = reply }))
+          (rw (packet-refusal size reply, refused)) (rw refused) (rw refused v)
+
+    event-step : (e : Event) → Told? (eqb (happens (bookOf b) c e .number) 0) → Stepped b s c (event e)
+    unfolding call kept says goes eventCall numberOr
+    event-step e (passed taken) =
+        let m = happens (bookOf b) c e in
+        step (event e) (kept (record { number = 0; saved = store (m .connection) s })) (rw (v .shows, no-refusal, taken))
+          (ap number (sym (eqb-true (m .number) 0 taken)))
+          (stored-view (m .connection) s (happens-legal (bookOf b) c lawful e) long)
+    event-step e (failed refused) =
+        step (event e) (kept (record { number = happens (bookOf b) c e .number; saved = s })) (rw (v .shows, no-refusal, refused))
+          refl (rw (happens-refused (bookOf b) c e refused) v)
+
+    settings-step : (x : OurSeid) → Stepped b s c (settingsTold x)
+    unfolding call asked says goes settingsCall
+    settings-step x =
+        step (settingsTold x) (asked s (number (shownAt (find x (bookOf b)) (c .ends) .number)))
+          (rw (no-refusal, v .shows)) refl v
+
+    delay-step : (x : OurSeid) → Stepped b s c (delay x)
+    unfolding call asked says goes delayCall
+    delay-step x =
+        step (delay x) (asked s (heard (heardAt (find x (bookOf b)) (c .ends)))) (rw (no-refusal, v .shows)) refl v
+
+    pub view-step : (k : Call) → Stepped b s c k
+    unfolding call asked says goes checkCall
+    view-step check = record { answer = ap number ok; next = v }
+    view-step fresh = fresh-step
+    view-step (packet size p reply) = packet-step size p reply (whether (eqb (packetNumber size reply) 0))
+    view-step (event e) = event-step e (whether (eqb (happens (bookOf b) c e .number) 0))
+    view-step (settingsTold x) = settings-step x
+    view-step (delay x) = delay-step x
+    view-step (packets size n) = record { answer = refl; next = v }
+    view-step (cut size m k area) = record { answer = refl; next = v }
+
+-- ---- Where a bridge begins: fresh or just lost, the area shows the fresh connection
+
+forgotten-fresh : (n : Entry) (e : Endpoint) → legalEnd n e ≡ true → forgotten e ≡ idle (n .seid)
+unfolding forgotten legalEnd
+forgotten-fresh n e lawful =
+    let same : e .seid .0 ≡ n .seid .0 = eqb-true (e .seid .0) (n .seid .0) (search (and-l, and-r)) in
+    λ i. idle (record { 0 = same i })
+
+lost-fresh : (book : Book) (ends : Ends) → legalEnds book ends ≡ true → map forgotten ends ≡ freshEnds book
+unfolding legalEnds freshEnds
+lost-fresh [] [] lawful = refl
+lost-fresh [] (e ∷ ends) lawful = clash refl (sym lawful)
+lost-fresh (n ∷ book) [] lawful = clash refl (sym lawful)
+lost-fresh (n ∷ book) (e ∷ ends) lawful =
+    ap₂ _∷_ (forgotten-fresh n e (and-l (legalEnd n e) (legalEnds book ends) lawful))
+      (lost-fresh book ends (and-r (legalEnd n e) (legalEnds book ends) lawful))
+
+all-lost : (book : Book) (c : Connection) → legal book c ≡ true → happens book c Lost .connection ≡ freshConnection book
+unfolding happens freshConnection
+all-lost book c lawful =
+    ap (λ (l : Ends). record { ends = l; gathering = none }) (lost-fresh book (c .ends) (legal-ends book c lawful .every))
+
+-- neither call was refused with 12
+begun-long : (b area s : List ℕ) → bookNumber b ≡ 0 → freshCall b area ≡ record { number = 0; saved = s }
+    → Told? (ltb (length area) (areaFor (length (bookOf b)))) → areaFor (length (bookOf b)) ≤ length area
+unfolding freshCall numberOr
+begun-long b area s ok e (failed enough) = ltb-false (length area) (areaFor (length (bookOf b))) enough
+begun-long b area s ok e (passed short) =
+    let refused : freshCall b area .number ≡ 12 = rw (ok, short) in
+    let twelve : _≡_ {A = ℕ} 12 0 = sym refused ∙ ap (λ (k : Kept). k .number) e in
+    absurd (omega arith)
+
+lost-right : (b area s : List ℕ) → bookNumber b ≡ 0 → eventCall b area Lost ≡ record { number = 0; saved = s }
+    → Told? (savedRight (bookOf b) area) → savedRight (bookOf b) area ≡ true
+unfolding eventCall refusalOf numberOr savedNumber
+lost-right b area s ok e (passed right) = right
+lost-right b area s ok e (failed wrong) =
+    let refused : eventCall b area Lost .number ≡ 12 = rw (ok, wrong) in
+    let twelve : _≡_ {A = ℕ} 12 0 = sym refused ∙ ap (λ (k : Kept). k .number) e in
+    absurd (omega arith)
+
+pub begins-view : (b s : List ℕ) → bookNumber b ≡ 0 → Begins b s → View b s (freshConnection (bookOf b))
+unfolding call kept goes
+begins-view b s ok (begun area e) =
+    let enough = begun-long b area s ok e (whether (ltb (length area) (areaFor (length (bookOf b))))) in
+    subst (λ (x : List ℕ). View b x (freshConnection (bookOf b)))
+      (ap (λ (k : Kept). k .saved) (sym (fresh-told b ok area enough) ∙ e))
+      (stored-view b ok (freshConnection (bookOf b)) area (fresh-legal (bookOf b)) enough)
+begins-view b s ok (lost area e) =
+    let right = lost-right b area s ok e (whether (savedRight (bookOf b) area)) in
+    let past = connectionIn (length (bookOf b)) area in
+    subst₂ (View b) (ap (λ (k : Kept). k .saved) e) (all-lost (bookOf b) past (right-legal (bookOf b) area right))
+      (view-step b ok area past (record { right = right; shows = refl }) (event Lost) .next)
