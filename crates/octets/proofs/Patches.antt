@@ -1,0 +1,121 @@
+-- The laws of patches and parts. An area with room is what stands before the patch, what it covers and what stands behind; over
+-- such a split each law is one of `++`.
+use Prim.Native.Nat.{ℕ, zero, suc, _+_, _-_, _≤_}
+use mathlib.Core.Path.{_≡_, refl, sym, ap, ap₂, _∙_, subst}
+use mathlib.Core.List.{List, [], _∷_, _++_, append-assoc}
+use native.Mathlib.Nat.{zero-add}
+use native.Mathlib.Omega.{arith}
+use lib.ListN.{length, take, drop, length-append, length-take, length-drop, take-append-drop}
+use lib.Seq.{take-at, drop-at, length-take-le, drop-drop, take-take, take-append-le, drop-append-le, drop-append-add, take-nil}
+use Rattle.rules.specs.Octets.{front}
+use Rattle.octets.specs.Patch.{patch, part}
+
+-- a part as the code takes it, from a start up to an end
+pub part-span : (from size : ℕ) (l : List ℕ) → take (from + size - from) (drop from l) ≡ part from size l
+unfolding part
+part-span from size l =
+    let e : from + size - from ≡ size = omega arith in
+    ap (λ (n : ℕ). take n (drop from l)) e
+
+-- a patch over an area that is split where the patch begins and ends
+pub patch-split : (a m z s : List ℕ) (at : ℕ) → length a ≡ at → length m ≡ length s → patch at s (a ++ (m ++ z)) ≡ a ++ (s ++ z)
+unfolding patch
+patch-split a m z s at e f =
+    ap₂ (λ (x y : List ℕ). x ++ (s ++ y)) (take-at a (m ++ z) at e)
+      (ap (drop (at + length s)) (sym (append-assoc a m z))
+       ∙ drop-at (a ++ m) z (at + length s) (simp length-append (omega arith)))
+
+-- what stands behind a place, split after n more
+behind-split : (d : List ℕ) (at n : ℕ) → drop at d ≡ take n (drop at d) ++ drop (at + n) d
+behind-split d at n =
+    sym (take-append-drop n (drop at d)) ∙ ap (λ (x : List ℕ). take n (drop at d) ++ x) (drop-drop n at d)
+
+-- lengths stay
+pub length-patch : (at : ℕ) (s d : List ℕ) → at + length s ≤ length d → length (patch at s d) ≡ length d
+unfolding patch
+length-patch at s d h = simp (length-append, length-take, length-drop) (omega arith)
+
+-- a patched part reads back
+pub part-patch : (at : ℕ) (s d : List ℕ) → at + length s ≤ length d → part at (length s) (patch at s d) ≡ s
+unfolding patch part
+part-patch at s d h =
+    ap (take (length s)) (drop-at (take at d) (s ++ drop (at + length s) d) at (length-take-le at d (omega arith)))
+    ∙ take-at s (drop (at + length s) d) (length s) refl
+
+-- a part before or behind the patch is untouched
+part-take : (from size n : ℕ) (d : List ℕ) → from + size ≤ n → part from size (take n d) ≡ part from size d
+unfolding part
+part-take zero size n d h = take-take size n d (omega arith)
+part-take (suc from) size n [] h = rw (take-nil {A = ℕ} n)
+part-take (suc from) size zero (x ∷ d) h = absurd (omega arith)
+part-take (suc from) size (suc n) (x ∷ d) h = part-take from size n d (omega arith)
+
+pub part-before : (from size at : ℕ) (s d : List ℕ) → from + size ≤ at → at ≤ length d → part from size (patch at s d) ≡ part from size d
+unfolding patch part
+part-before from size at s d h k =
+    let room : length (take at d) ≡ at = length-take-le at d k in
+    ap (take size) (drop-append-le from (take at d) (s ++ drop (at + length s) d) (omega arith))
+    ∙ take-append-le size (drop from (take at d)) (s ++ drop (at + length s) d) (simp length-drop (omega arith))
+    ∙ part-take from size at d h
+
+pub drop-patch : (n at : ℕ) (s d : List ℕ) → at + length s ≤ n → at + length s ≤ length d → drop n (patch at s d) ≡ drop n d
+unfolding patch
+drop-patch n at s d h k =
+    let head = take at d ++ s in
+    let more = n - (at + length s) in
+    let e : length head + more ≡ n = simp (length-append, length-take) (omega arith) in
+    let f : at + length s + more ≡ n = omega arith in
+    ap (drop n) (sym (append-assoc (take at d) s (drop (at + length s) d)))
+    ∙ ap (λ (x : ℕ). drop x (head ++ drop (at + length s) d)) (sym e)
+    ∙ drop-append-add head (drop (at + length s) d) more
+    ∙ drop-drop more (at + length s) d
+    ∙ ap (λ (x : ℕ). drop x d) f
+
+pub part-behind : (from size at : ℕ) (s d : List ℕ) → at + length s ≤ from → at + length s ≤ length d
+  → part from size (patch at s d) ≡ part from size d
+unfolding part
+part-behind from size at s d h k = ap (take size) (drop-patch from at s d h k)
+
+-- written at the front
+pub front-patch : (s d : List ℕ) → front s d ≡ patch 0 s d
+unfolding front patch
+front-patch s d = rw zero-add
+
+-- disjoint patches commute
+five : (a m b n z : List ℕ) → a ++ (m ++ (b ++ (n ++ z))) ≡ (a ++ (m ++ b)) ++ (n ++ z)
+five a m b n z = simp append-assoc
+
+comm-split : (a m b n z s t : List ℕ) (i j : ℕ) → length a ≡ i → length m ≡ length s → length n ≡ length t
+  → length a + (length m + length b) ≡ j
+  → patch j t (patch i s (a ++ (m ++ (b ++ (n ++ z))))) ≡ patch i s (patch j t (a ++ (m ++ (b ++ (n ++ z)))))
+comm-split a m b n z s t i j p q r e =
+    ap (patch j t) (patch-split a m (b ++ (n ++ z)) s i p q ∙ five a s b n z)
+    ∙ patch-split (a ++ (s ++ b)) n z t j (simp length-append (omega arith)) r
+    ∙ sym (five a s b t z)
+    ∙ sym (ap (patch i s)
+        (ap (patch j t) (five a m b n z) ∙ patch-split (a ++ (m ++ b)) n z t j (simp length-append (omega arith)) r ∙ sym (five a m b t z))
+      ∙ patch-split a m (b ++ (t ++ z)) s i p q)
+
+pub patch-comm : (i : ℕ) (s : List ℕ) (j : ℕ) (t d : List ℕ) → i + length s ≤ j → j + length t ≤ length d
+  → patch j t (patch i s d) ≡ patch i s (patch j t d)
+patch-comm i s j t d h k =
+    let a = take i d in
+    let m = take (length s) (drop i d) in
+    let gap = j - (i + length s) in
+    let b = take gap (drop (i + length s) d) in
+    let n = take (length t) (drop j d) in
+    let z = drop (j + length t) d in
+    let g : i + length s + gap ≡ j = omega arith in
+    let whole : d ≡ a ++ (m ++ (b ++ (n ++ z))) =
+          sym (take-append-drop i d)
+          ∙ ap (λ (x : List ℕ). a ++ x)
+              (behind-split d i (length s)
+               ∙ ap (λ (x : List ℕ). m ++ x)
+                   (behind-split d (i + length s) gap
+                    ∙ ap (λ (x : List ℕ). b ++ x) (ap (λ (x : ℕ). drop x d) g ∙ behind-split d j (length t)))) in
+    let la : length a ≡ i = simp length-take (omega arith) in
+    let lm : length m ≡ length s = simp (length-take, length-drop) (omega arith) in
+    let lb : length b ≡ gap = simp (length-take, length-drop) (omega arith) in
+    let ln : length n ≡ length t = simp (length-take, length-drop) (omega arith) in
+    subst (λ (x : List ℕ). patch j t (patch i s x) ≡ patch i s (patch j t x)) (sym whole)
+      (comm-split a m b n z s t i j la lm ln (omega arith))
