@@ -14,7 +14,7 @@ use Rattle.rules.specs.Octets.{if_then_else_, some-of, each-of}
 use Rattle.rules.specs.Elements.{Item, whole, short, items, categoryOf, strange, transport, reporting, recovery}
 use Rattle.rules.specs.Elements.{protection, compression, multiplexing, codec, delaying, offersIn, offered}
 use Rattle.rules.specs.Elements.{Asked, setting, reconfiguring, fixed, isStrange, Fault, itemCategory, itemCode}
-use Rattle.rules.specs.Elements.{faultOr, faultIn, isOf, has, missing, settingFault}
+use Rattle.rules.specs.Elements.{firstFault, faultOr, faultIn, isOf, has, missing, settingFault}
 use Rattle.rules.specs.Book.{Entry, Book, Found, unknown, known, later, find, upToCodec, shownBy02}
 use Rattle.rules.specs.Packets.{Message}
 use Rattle.rules.specs.Endpoints.{Endpoint, Ends, Connection, idle, freshEnds, freshConnection, endAt, inState}
@@ -124,7 +124,7 @@ code-alike asked caps caps′ seen (whole c v) same passes = go (told (leb c 7))
 
 fault-alike : (asked : Asked) (caps caps′ : List Item) (seen : List ℕ) (is : List Item) → OfferAlike caps caps′
     → each-of (passes8 asked) is ≡ true → faultIn asked caps seen is ≡ faultIn asked caps′ seen is
-unfolding faultIn each-of
+unfolding faultIn firstFault each-of
 fault-alike asked caps caps′ seen [] same passes = refl
 fault-alike asked caps caps′ seen (i ∷ is) same passes =
     ap₂ (faultOr (itemCategory i))

@@ -14,7 +14,7 @@ use borrow.Author.Tests.{eqb-true, eq-eqb, ne-eqb, eqb-false, not-false}
 use Rattle.rules.specs.Octets.{if_then_else_, sameOctets, member, isEmpty, some-of}
 use Rattle.rules.specs.Elements.{Item, whole, short, items, element, categoryOf, lengthCode, itemCategory, isOf, has}
 use Rattle.rules.specs.Elements.{bitsWithin, codecWithin, valueWithin, offersIn, offered, isStrange, fixed, itemCode}
-use Rattle.rules.specs.Elements.{Asked, setting, reconfiguring, Fault, noFault, faultOr, faultIn, missing, settingFault}
+use Rattle.rules.specs.Elements.{firstFault, Asked, setting, reconfiguring, Fault, noFault, faultOr, faultIn, missing, settingFault}
 use Rattle.rules.specs.Elements.{offerable, clearLow, kept, pick, picks, stored, restored, couldStore}
 use Rattle.rules.specs.Book.{written}
 use Rattle.rules.specs.Computed.{computed}
@@ -268,7 +268,7 @@ fine-first asked caps d w is f rest c v p = go (told (eqb c d))
 
 clean-fine : (asked : Asked) (caps : List Item) (seen : List ℕ) (is : List Item) → faultIn asked caps seen is .code ≡ 0
     → AllFine asked caps is
-unfolding faultIn valueOf itemCategory
+unfolding faultIn firstFault valueOf itemCategory
 clean-fine asked caps seen [] e = λ c v p. let z : _≡_ {A = ℕ} 0 1 = cc in absurd (omega arith)
 clean-fine asked caps seen (short d ∷ is) e =
     clean-fine asked caps (d ∷ seen) is (clean-tail d (itemCode asked caps seen (short d)) _ e)
@@ -289,7 +289,7 @@ fine-kept caps c v f =
 one-clean : (caps : List Item) (seen : List ℕ) (c : ℕ) (o : Option (List ℕ)) (rest : List Item)
     → ((v : List ℕ) → o ≡ some v → Fine setting caps c v) → member c seen ≡ false → faultIn setting caps seen rest .code ≡ 0
     → faultIn setting caps (c ∷ seen) rest .code ≡ 0 → faultIn setting caps seen (itemsOf c (keptOf c o) ++ rest) .code ≡ 0
-unfolding faultIn itemsOf keptOf itemCategory faultOr
+unfolding faultIn firstFault itemsOf keptOf itemCategory faultOr
 one-clean caps seen c none rest fine new e e′ = e
 one-clean caps seen c (some v) rest fine new e e′ =
     rw (fine-code setting caps seen c (kept c v) (fine-kept caps c v (fine v refl)) new) e′
@@ -311,7 +311,7 @@ other-category b c cs m n = ne-eqb b c (λ e. clash m (rw e n))
 
 picks-clean : (caps is : List Item) → AllFine setting caps is → (cs seen : List ℕ) → distinct cs ≡ true
     → ((c : ℕ) → member c cs ≡ true → member c seen ≡ false) → faultIn setting caps seen (items (picks cs is)) .code ≡ 0
-unfolding picks member faultIn noFault
+unfolding picks member faultIn firstFault noFault
 picks-clean caps is fine [] seen d new = rw items-none
 picks-clean caps is fine (c ∷ cs) seen d new =
     let rest = distinct-tail c cs d in

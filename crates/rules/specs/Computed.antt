@@ -1,15 +1,16 @@
 -- One name that opens all definitions: a theorem that is computed says `unfolding computed`.
 use Rattle.rules.specs.Octets.{between, sameOctets, member, isEmpty, some-of, each-of, front}
 use Rattle.rules.specs.Elements.{headed, itemsPast, element, categoryOf, lengthCode, bitsWithin, codecWithin, valueWithin}
-use Rattle.rules.specs.Elements.{offersIn, offered, fixed, isStrange, noFault, itemCategory, itemCode, faultOr, faultIn}
-use Rattle.rules.specs.Elements.{isOf, has, missing, settingFault, offerable, clearLow, kept, pick, picks, stored, restored}
-use Rattle.rules.specs.Elements.{couldStore}
-use Rattle.rules.specs.Book.{kindRight, mediaType, isSource, mayFollow, startRight, listedFrom, listRight, entriesNumber}
+use Rattle.rules.specs.Elements.{offersIn, offered, fixed, isStrange, noFault, itemCategory, itemCode, faultOr, firstFault}
+use Rattle.rules.specs.Elements.{faultIn, isOf, has, missing, settingFault, offerable, clearLow, kept, pick, picks, stored}
+use Rattle.rules.specs.Elements.{restored, couldStore}
+use Rattle.rules.specs.Book.{kindRight, mediaType, isSource, mayFollow, startRight, offerCode, listRight, entriesNumber}
 use Rattle.rules.specs.Book.{bookNumber, entriesIn, bookOf, later, find, written, upToCodec, shownBy02, shownBy0C}
 use Rattle.rules.specs.Packets.{sizeRight, longest, labelIn, typeIn, signalIn, kindIn, messageFrom, readAs, read, packetIn}
 use Rattle.rules.specs.Packets.{ended, completes, gathers, extended, begin, isNext, joined, goesOn, taken, gather}
 use Rattle.rules.specs.Packets.{gatheringRight}
 use Rattle.rules.specs.Cutting.{packetsFor, partOf, firstOctet, header, countOf, packetAt, packetsFrom, cutUp}
+use Rattle.rules.specs.Gathered.{withDone, gatherAll}
 use Rattle.rules.specs.Endpoints.{idle, freshEnds, freshConnection, isAbsent, isAwaited, isUp, isIdle, isReported}
 use Rattle.rules.specs.Endpoints.{channelRight, takesDelay, delayRight, farRight, keepsNothing, keepsSettings, legalEnd}
 use Rattle.rules.specs.Endpoints.{legalEnds, awaiting, legalGathering, legal, inState, withChannel, withDelay, withConfig}
@@ -30,20 +31,20 @@ use Rattle.rules.specs.Sessions.{kept as keptBy, answered, asked, call, 
 
 unfoldable pub computed : Unit {0}
 unfolding between sameOctets member isEmpty some-of each-of front headed itemsPast element categoryOf lengthCode bitsWithin
-    codecWithin valueWithin offersIn offered fixed isStrange noFault itemCategory itemCode faultOr faultIn isOf has
-    missing settingFault offerable clearLow kept pick picks stored restored couldStore kindRight mediaType isSource
-    mayFollow startRight listedFrom listRight entriesNumber bookNumber entriesIn bookOf later find written upToCodec
+    codecWithin valueWithin offersIn offered fixed isStrange noFault itemCategory itemCode faultOr firstFault faultIn isOf
+    has missing settingFault offerable clearLow kept pick picks stored restored couldStore kindRight mediaType isSource
+    mayFollow startRight offerCode listRight entriesNumber bookNumber entriesIn bookOf later find written upToCodec
     shownBy02 shownBy0C sizeRight longest labelIn typeIn signalIn kindIn messageFrom readAs read packetIn ended completes
     gathers extended begin isNext joined goesOn taken gather gatheringRight packetsFor partOf firstOctet header countOf
-    packetAt packetsFrom cutUp idle freshEnds freshConnection isAbsent isAwaited isUp isIdle isReported channelRight
-    takesDelay delayRight farRight keepsNothing keepsSettings legalEnd legalEnds awaiting legalGathering legal inState
-    withChannel withDelay withConfig forgotten leaving endAt upIn withEnds downAt happens areaFor stateIn stateOctet
-    channelIn channelOctet delayIn delayMark delayTenths endpointIn recordRight headOf storeEnd endsIn recordsRight
-    storeEnds gatheringAt gatheringIn gatheringOctetsRight gatheringHead storeGathering connectionIn store savedRight
-    stays moves rejectBare rejectElement rejectSeid ourIn farIn foundOr atEndpoint isConfigured isOpen isStreaming isSet
-    inUse discovered discover capabilities settled setAt setConfiguration getConfiguration reconfigureAt reconfigure
-    openUp mayStart maySuspend turnOne turnEach turn close abort securityControl delayReport signalOf obey answer
-    checkCall numberOr savedNumber refusalOf packetRefusal freshCall nothingSaid said toldOf payloadOf turnOf takes
+    packetAt packetsFrom cutUp withDone gatherAll idle freshEnds freshConnection isAbsent isAwaited isUp isIdle isReported
+    channelRight takesDelay delayRight farRight keepsNothing keepsSettings legalEnd legalEnds awaiting legalGathering
+    legal inState withChannel withDelay withConfig forgotten leaving endAt upIn withEnds downAt happens areaFor stateIn
+    stateOctet channelIn channelOctet delayIn delayMark delayTenths endpointIn recordRight headOf storeEnd endsIn
+    recordsRight storeEnds gatheringAt gatheringIn gatheringOctetsRight gatheringHead storeGathering connectionIn store
+    savedRight stays moves rejectBare rejectElement rejectSeid ourIn farIn foundOr atEndpoint isConfigured isOpen
+    isStreaming isSet inUse discovered discover capabilities settled setAt setConfiguration getConfiguration reconfigureAt
+    reconfigure openUp mayStart maySuspend turnOne turnEach turn close abort securityControl delayReport signalOf obey
+    answer checkCall numberOr savedNumber refusalOf packetRefusal freshCall nothingSaid said toldOf payloadOf turnOf takes
     packetCall eventCall settingsOf shownAt settingsCall heard heardAt delayCall packetsCall cutRefusal cutCall keptBy
     answered asked call answers after
 computed = tt

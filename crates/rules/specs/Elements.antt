@@ -151,10 +151,14 @@ unfoldable pub faultOr : ℕ → ℕ → Fault → Fault
 faultOr c zero later = later
 faultOr c (suc n) later = record { category = c; code = suc n }
 
+-- The items left to right, each judged by the categories before it, the nearest first.
+unfoldable pub firstFault : (List ℕ → Item → ℕ) → List ℕ → List Item → Fault
+firstFault judge seen [] = noFault
+firstFault judge seen (i ∷ is) =
+    faultOr (itemCategory i) (judge seen i) (firstFault judge (itemCategory i ∷ seen) is)
+
 unfoldable pub faultIn : Asked → List Item → List ℕ → List Item → Fault
-faultIn asked caps seen [] = noFault
-faultIn asked caps seen (i ∷ is) =
-    faultOr (itemCategory i) (itemCode asked caps seen i) (faultIn asked caps (itemCategory i ∷ seen) is)
+faultIn asked caps seen is = firstFault (itemCode asked caps) seen is
 
 unfoldable pub isOf : ℕ → Item → Bool
 isOf c (whole d v) = eqb c d
