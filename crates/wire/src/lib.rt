@@ -1,0 +1,3 @@
+// Packets: one gathering step, and the cutter.
+pub mod gathers;
+pub mod cuts;
