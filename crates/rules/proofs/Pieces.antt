@@ -73,7 +73,7 @@ module _ (h : Headers) (m : ℕ) where
   before-next k = omega arith
 
   -- the payload goes on past the start of every packet after the first
-  before-less : {n count : ℕ} (k : ℕ) → Counts h m n count → suc k < count → before h m (suc k) < n
+  pub before-less : {n count : ℕ} (k : ℕ) → Counts h m n count → suc k < count → before h m (suc k) < n
   unfolding before
   before-less k (one l) b = absurd (omega arith)
   before-less k (several q l p r) b = omega (arith, mul-le-mul-right {m = k} {n = q} (m - h .further) (omega arith))

@@ -48,7 +48,7 @@ pub packet-count : (size : ℕ) (m : Message) → length (cutUp size m) ≡ coun
 unfolding cutUp
 packet-count size m = from-count size m 0 (countOf size m)
 
-header-length : (m : Message) (count k : ℕ) → length (header m count k) ≡ headerOf avdtp count k
+pub header-length : (m : Message) (count k : ℕ) → length (header m count k) ≡ headerOf avdtp count k
 unfolding header headerOf
 header-length m count zero = go (eqb count 1)
   where
@@ -62,7 +62,7 @@ header-length m count (suc k) = go (ltb (suc (suc k)) count)
     go true = refl
     go false = refl
 
-packet-length : (size : ℕ) (m : Message) (k : ℕ)
+pub packet-length : (size : ℕ) (m : Message) (k : ℕ)
     → length (packetAt size m k) ≡ headerOf avdtp (countOf size m) k + length (partOf avdtp size (countOf size m) k (m .payload))
 unfolding packetAt
 packet-length size m k = rw (length-append, header-length)
@@ -128,7 +128,7 @@ module _ (size : ℕ) (m : Message) (right : sizeRight size ≡ true) (r : HasRo
   read-packet zero = read-first m r (eqb (countOf size m) 1) _ _
   read-packet (suc k) = read-further m r (ltb (suc (suc k)) (countOf size m)) _
 
-  gather-packet : (g : Option Gathering) (k : ℕ)
+  pub gather-packet : (g : Option Gathering) (k : ℕ)
       → gather size g (packetAt size m k) ≡ taken g (asRead avdtp size (countOf size m) m k)
   unfolding gather packetIn
   gather-packet g k = rw (le-ltb size (length (packetAt size m k)) (packets-fit size m k right), read-packet)

@@ -3,3 +3,4 @@ pub mod Fronts
 pub mod Steps
 pub mod Rooms
 pub mod Done
+pub mod Cutter

@@ -1,11 +1,27 @@
 // The cutter: how many packets a message takes, and packet number n written into a lent area.
 use rules::Piece;
-
 ghost use mathlib.Core.Path.{_≡_};
+ghost use mathlib.Core.List.{List};
+ghost use Prim.Native.Nat.{ℕ, _≤_, _<_, min};
+ghost use lib.ListN.{take};
+ghost use Rattle.rules.specs.Cutting.{avdtp, packetsFor};
+ghost use Rattle.rules.specs.Cutting.{header as headerFor};
 ghost use Rattle.rules.specs.Host.{packetsCall, cutCall};
 ghost use Rattle.rules.specs.Wires.{cutBy};
+ghost use Rattle.rules.proofs.Pieces.{headerOf, before};
 
-// How many packets of this size a payload of this length takes; 0 where size or length is refused.
+// How many packets a payload of this length takes: one, or a start and then as many full packets as the rest fills.
+fn count(size: usize, length: usize) -> usize
+    requires { ⌜ 48 ≤ size ⌝ ∗ ⌜ size ≤ 672 ⌝ ∗ ⌜ length ≤ 512 ⌝ }
+    ensures { λ r. ⌜ r ≡ packetsFor avdtp size length ⌝ }
+{
+    if length <= size - 2 {
+        return 1;
+    }
+    (length - (size - 3) + (size - 2)) / (size - 1) + 1
+}
+
+// The same for any size and length: 0 where one of them is refused.
 pub fn packets(size: usize, length: usize) -> usize
     ensures { λ r. ⌜ r ≡ packetsCall size length ⌝ }
 {
@@ -19,4 +35,110 @@ pub fn packets(size: usize, length: usize) -> usize
         return 0;
     }
     count(size, length)
+}
+
+// Octets of header in packet number `index` of `total`.
+fn header_size(total: usize, index: usize) -> usize
+    ensures { λ r. ⌜ r ≡ headerOf avdtp total index ⌝ }
+{
+    if index != 0 {
+        return 1;
+    }
+    if total == 1 {
+        return 2;
+    }
+    3
+}
+
+// That header; a shorter one is followed by zeros.
+fn header(label: u8, kind: u8, signal: u8, total: usize, index: usize) -> [u8; 3]
+    requires { ⌜ label < 16 ⌝ ∗ ⌜ kind < 4 ⌝ ∗ ⌜ index < total ⌝ ∗ ⌜ total ≤ 255 ⌝ }
+    ensures { λ r. ⌜ ((p : List ℕ) → take (headerOf avdtp total index) r
+        ≡ headerFor (record { label = label; type = kind; signal = signal; payload = p }) total index) ⌝ }
+{
+    let single = label * 16 + kind;
+    if index != 0 {
+        if index + 1 < total {
+            return [single + 8, 0, 0];
+        }
+        return [single + 12, 0, 0];
+    }
+    if total == 1 {
+        return [single, signal, 0];
+    }
+    [single + 4, total as u8, signal]
+}
+
+// Octets of payload before packet number `index`.
+fn offset(size: usize, index: usize) -> usize
+    requires { ⌜ 48 ≤ size ⌝ ∗ ⌜ size ≤ 672 ⌝ ∗ ⌜ index ≤ 255 ⌝ }
+    ensures { λ r. ⌜ r ≡ before avdtp size index ⌝ }
+{
+    if index == 0 {
+        return 0;
+    }
+    size - 3 + (index - 1) * (size - 1)
+}
+
+fn least(a: usize, b: usize) -> usize
+    ensures { λ r. ⌜ r ≡ min a b ⌝ }
+{
+    if a < b {
+        return a;
+    }
+    b
+}
+
+fn refused(number: u8) -> Piece
+    ensures { λ r. ⌜ r ≡ record { number = number; length = 0 } ⌝ }
+{
+    Piece { number, length: 0 }
+}
+
+// Writes packet number `index` of a message, counted from 0, at the front of `area`.
+pub fn cut(
+    size: usize,
+    label: u8,
+    kind: u8,
+    signal: u8,
+    payload: &[u8],
+    index: usize,
+    area: &mut [u8],
+) -> Piece
+    ensures { λ r. ⌜ cutBy r (now (area .exit))
+        ≡ cutCall size (record { label = label; type = kind; signal = signal; payload = now (payload .entry) }) index
+        (now (area .entry)) ⌝ }
+{
+    if size < 48 {
+        return refused(8);
+    }
+    if 672 < size {
+        return refused(8);
+    }
+    let total = packets(size, payload.len());
+    if total <= index {
+        return refused(11);
+    }
+    if 15 < label {
+        return refused(11);
+    }
+    if 3 < kind {
+        return refused(11);
+    }
+    if 63 < signal {
+        return refused(11);
+    }
+    let head_size = header_size(total, index);
+    let from = offset(size, index);
+    let part_size = least(size - head_size, payload.len() - from);
+    if area.len() < head_size + part_size {
+        return refused(9);
+    }
+    let head = header(label, kind, signal, total, index);
+    octets::put(area, 0, octets::part(&head, 0, head_size));
+    octets::put(area, head_size, octets::part(payload, from, part_size));
+    Piece {
+        number: 0,
+        length: head_size + part_size,
+    }
 }
