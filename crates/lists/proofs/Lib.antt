@@ -1,0 +1,4 @@
+pub mod Categories
+pub mod Standing
+pub mod Passing
+pub mod Judging
