@@ -2,12 +2,12 @@
 -- the payload, one written behind the other.
 use Prim.Native.Nat.{ℕ, zero, suc, _+_, _-_, _≤_, _<_, min, zero-le}
 use mathlib.Core.Path.{_≡_, refl, sym, ap, ap₂, _∙_}
-use mathlib.Core.List.{List, _++_, append-assoc}
+use mathlib.Core.List.{List, _++_}
 use mathlib.Core.Bool.{Bool, true, false, not, _&&_}
 use native.Mathlib.Nat.{min-eq-left, min-eq-right}
 use native.Mathlib.Omega.{arith}
-use lib.ListN.{length, take, drop, length-append, length-take, length-drop, take-append-drop}
-use lib.Seq.{take-all, drop-drop, length-take-le}
+use lib.ListN.{length, take, drop, length-take, length-drop}
+use lib.Seq.{take-all, length-take-le}
 use lib.Dec.{leb, ltb, eqb, lit≤}
 use borrow.Author.Tests.{lt-ltb, le-ltb, le-leb, lt-leb, leb-true, leb-false, ne-eqb}
 use Rattle.rules.specs.Octets.{if_then_else_, front, between}
@@ -20,7 +20,8 @@ use Rattle.rules.proofs.Tests.{Told?, passed, failed, told, between-both}
 use Rattle.rules.proofs.Pieces.{before, Counts, one, several, before-less, headerOf}
 use Rattle.rules.proofs.ReadsBack.{HasRoom, counts, header-length, packet-length}
 use Rattle.octets.specs.Patch.{patch, part}
-use Rattle.octets.proofs.Patches.{patch-split, front-patch}
+use Rattle.octets.proofs.Patches.{front-patch}
+use Rattle.wire.proofs.Fronts.{front-more}
 
 -- ---- The size
 
@@ -132,6 +133,17 @@ module _ {size : ℕ} {m : Message} {k total : ℕ} (n : Numbered size m k total
         rw (n .right, low, not-long, lt-ltb (m .label) 16 (r .label-small), lt-ltb (m .type) 4 (r .type-small),
             lt-ltb (m .signal) 64 (r .signal-small))
 
+    no-room : HasRoom m → length area < length (packetAt size m k) → cutRefusal size m k area ≡ 9
+    no-room r short =
+        room-test r ∙ ap (λ (b : Bool). if b then 9 else 0) (lt-ltb (length area) (length (packetAt size m k)) short)
+
+    -- where nothing is refused
+    pub cuts : HasRoom m → length (packetAt size m k) ≤ length area
+      → cutCall size m k area ≡ record { number = 0; length = length (packetAt size m k); area = front (packetAt size m k) area }
+    unfolding cutCall
+    cuts r fits =
+        rw (room-test r ∙ ap (λ (b : Bool). if b then 9 else 0) (le-ltb (length area) (length (packetAt size m k)) fits))
+
 -- ---- A packet
 
 pub header-small : (total k : ℕ) → headerOf avdtp total k ≤ 3
@@ -195,18 +207,6 @@ module _ {size : ℕ} {m : Message} {k total : ℕ} (n : Numbered size m k total
       ∙ ap (λ (t : ℕ). headerOf avdtp t k + length (partOf avdtp size t k (m .payload))) (sym (n .whole))
       ∙ rw (part-of avdtp size k (m .payload) counts-total, length-take, length-drop)
 
--- written one behind the other
-behind-front : (h p area : List ℕ) → length h + length p ≤ length area
-  → patch (length h) p (patch 0 h area) ≡ front (h ++ p) area
-unfolding front
-behind-front h p area fits =
-    ap (patch (length h) p)
-      (sym (front-patch h area)
-       ∙ ap (λ (x : List ℕ). h ++ x) (sym (take-append-drop (length p) (drop (length h) area))))
-    ∙ patch-split h (take (length p) (drop (length h) area)) (drop (length p) (drop (length h) area)) p (length h) refl
-        (simp (length-take, length-drop) (omega arith))
-    ∙ rw (drop-drop, length-append, append-assoc)
-
 -- the packet, as the code comes to it
 module _ {size : ℕ} {m : Message} {k total : ℕ} (n : Numbered size m k total) (r : HasRoom m) (area : List ℕ)
     (head from rest : ℕ) (is-head : head ≡ headerOf avdtp total k) (is-from : from ≡ before avdtp size k)
@@ -215,14 +215,7 @@ module _ {size : ℕ} {m : Message} {k total : ℕ} (n : Numbered size m k total
   whole-size = packet-size n ∙ sym (rw (is-rest, is-head, is-from))
 
   pub too-short : length area < head + rest → cutRefusal size m k area ≡ 9
-  too-short short =
-      room-test n area r
-      ∙ ap (λ (b : Bool). if b then 9 else 0) (lt-ltb (length area) (length (packetAt size m k)) (omega (arith, whole-size)))
-
-  accepts : head + rest ≤ length area → cutRefusal size m k area ≡ 0
-  accepts fits =
-      room-test n area r
-      ∙ ap (λ (b : Bool). if b then 9 else 0) (le-ltb (length area) (length (packetAt size m k)) (omega (arith, whole-size)))
+  too-short short = no-room n area r (omega (arith, whole-size))
 
   module _ (octets h p a b : List ℕ) (is-octets : take (headerOf avdtp total k) octets ≡ header m total k)
       (is-part : h ≡ part 0 head octets) (is-p : p ≡ part from rest (m .payload))
@@ -240,10 +233,10 @@ module _ {size : ℕ} {m : Message} {k total : ℕ} (n : Numbered size m k total
     in-place : b ≡ front (packetAt size m k) area
     in-place =
         let e : head ≡ length h = is-head ∙ sym (ap length is-h ∙ header-length m total k) in
-        is-b ∙ ap₂ (λ (x : ℕ) (y : List ℕ). patch x p y) e is-a
-        ∙ behind-front h p area (omega (arith, fits, sym (length-append h p) ∙ ap length joined ∙ whole-size))
+        is-b ∙ ap₂ (λ (x : ℕ) (y : List ℕ). patch x p y) e (is-a ∙ sym (front-patch h area))
+        ∙ front-more h p area
         ∙ ap (λ (x : List ℕ). front x area) joined
 
     pub writes : cutBy (record { number = 0; length = head + rest }) b ≡ cutCall size m k area
-    unfolding cutBy cutCall
-    writes = rw (accepts fits, in-place, whole-size)
+    unfolding cutBy
+    writes = sym (cuts n area r (omega (arith, whole-size)) ∙ rw (in-place, whole-size))

@@ -1,5 +1,6 @@
 // The cutter: how many packets a message takes, and packet number n written into a lent area.
 use rules::Piece;
+
 ghost use mathlib.Core.Path.{_≡_};
 ghost use mathlib.Core.List.{List};
 ghost use Prim.Native.Nat.{ℕ, _≤_, _<_, min};
@@ -10,7 +11,7 @@ ghost use Rattle.rules.specs.Host.{packetsCall, cutCall};
 ghost use Rattle.rules.specs.Wires.{cutBy};
 ghost use Rattle.rules.proofs.Pieces.{headerOf, before};
 
-// How many packets a payload of this length takes: one, or a start and then as many full packets as the rest fills.
+// How many packets a payload of this length takes: one, or a start and then as many further ones as hold the rest.
 fn count(size: usize, length: usize) -> usize
     requires { ⌜ 48 ≤ size ⌝ ∗ ⌜ size ≤ 672 ⌝ ∗ ⌜ length ≤ 512 ⌝ }
     ensures { λ r. ⌜ r ≡ packetsFor avdtp size length ⌝ }
@@ -50,12 +51,13 @@ fn header_size(total: usize, index: usize) -> usize
     3
 }
 
-// That header; a shorter one is followed by zeros.
+// That header; behind one that is shorter than three octets stand zeros.
 fn header(label: u8, kind: u8, signal: u8, total: usize, index: usize) -> [u8; 3]
     requires { ⌜ label < 16 ⌝ ∗ ⌜ kind < 4 ⌝ ∗ ⌜ index < total ⌝ ∗ ⌜ total ≤ 255 ⌝ }
     ensures { λ r. ⌜ ((p : List ℕ) → take (headerOf avdtp total index) r
         ≡ headerFor (record { label = label; type = kind; signal = signal; payload = p }) total index) ⌝ }
 {
+    // octet 0 of a single, whose packet type is 0; the packet type counts by 4
     let single = label * 16 + kind;
     if index != 0 {
         if index + 1 < total {
@@ -89,6 +91,7 @@ fn least(a: usize, b: usize) -> usize
     b
 }
 
+// What is told where nothing is written.
 fn refused(number: u8) -> Piece
     ensures { λ r. ⌜ r ≡ record { number = number; length = 0 } ⌝ }
 {
