@@ -43,7 +43,7 @@ part-patch at s d h =
     ∙ take-at s (drop (at + length s) d) (length s) refl
 
 -- a part before or behind the patch is untouched
-part-take : (from size n : ℕ) (d : List ℕ) → from + size ≤ n → part from size (take n d) ≡ part from size d
+pub part-take : (from size n : ℕ) (d : List ℕ) → from + size ≤ n → part from size (take n d) ≡ part from size d
 unfolding part
 part-take zero size n d h = take-take size n d (omega arith)
 part-take (suc from) size n [] h = rw (take-nil {A = ℕ} n)
@@ -119,3 +119,19 @@ patch-comm i s j t d h k =
     let ln : length n ≡ length t = simp (length-take, length-drop) (omega arith) in
     subst (λ (x : List ℕ). patch j t (patch i s x) ≡ patch i s (patch j t x)) (sym whole)
       (comm-split a m b n z s t i j la lm ln (omega arith))
+
+-- what stands behind a write that ends within the first m octets
+rest-joined : (k m : ℕ) (x : List ℕ) → k ≤ m → drop k (take m x) ++ drop m x ≡ drop k x
+rest-joined zero m x h = take-append-drop m x
+rest-joined (suc k) zero x h = absurd (omega arith)
+rest-joined (suc k) (suc m) [] h = refl
+rest-joined (suc k) (suc m) (o ∷ x) h = rest-joined k m x (omega arith)
+
+-- a part that was lent and written at its front, back in its place
+pub lent-front : (at k : ℕ) (s d : List ℕ) → length s ≤ k
+  → take at d ++ (front s (take k (drop at d)) ++ drop k (drop at d)) ≡ patch at s d
+unfolding front patch
+lent-front at k s d h =
+    ap (λ (x : List ℕ). take at d ++ x)
+      (append-assoc s (drop (length s) (take k (drop at d))) (drop k (drop at d))
+       ∙ ap (λ (x : List ℕ). s ++ x) (rest-joined (length s) k (drop at d) h ∙ drop-drop (length s) at d))

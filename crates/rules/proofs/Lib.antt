@@ -5,6 +5,8 @@ pub mod Storable
 pub mod Pieces
 pub mod ReadsBack
 pub mod SavedReads
+pub mod OneRecord
+pub mod ChannelUp
 pub mod Places
 pub mod RightBook
 pub mod Outcomes

@@ -14,7 +14,7 @@ use lib.Seq.{length-front as length-joined}
 use lib.Dec.{leb, ltb, eqb, lit<, lit≤}
 use lib.Arith.{digits-div, digits-mod}
 use borrow.Author.Tests.{leb-true, le-leb, ltb-true, eqb-true}
-use Rattle.rules.specs.Octets.{if_then_else_, each-of, front}
+use Rattle.rules.specs.Octets.{octetsIn, if_then_else_, each-of, front}
 use Rattle.rules.specs.Book.{bookOf}
 use Rattle.rules.specs.Packets.{Gathering, longest}
 use Rattle.rules.specs.Endpoints.{Endpoint, Ends, Connection, withEnds, freshConnection}
@@ -48,12 +48,11 @@ pub record Roomy (c : Connection) (l : List ℕ) : Type 0 where
 
 -- ---- What is read of one stored record, and of the stored gathering
 
-front-length : (s r : List ℕ) → length s ≤ length r → length (front s r) ≡ length r
+pub front-length : (s r : List ℕ) → length s ≤ length r → length (front s r) ≡ length r
 unfolding front
 front-length s r h = length-joined r s (length s) (sym (length-take-le (length s) r h))
 
 state-back : (s : State) → stateIn (stateOctet s) ≡ s
-unfolding stateIn stateOctet
 state-back Idle = refl
 state-back Configured = refl
 state-back Open = refl
@@ -62,17 +61,15 @@ state-back Closing = refl
 state-back Aborting = refl
 
 channel-back : (c : Channel) → channelIn (channelOctet c) ≡ c
-unfolding channelIn channelOctet
 channel-back Absent = refl
 channel-back Awaited = refl
 channel-back Up = refl
 
 delay-back : (d : Delay) → delayIn (delayMark d) (pairIn (delayTenths d / 256) (delayTenths d % 256)) ≡ d
-unfolding delayIn delayMark delayTenths
 delay-back Unreported = refl
 delay-back (Reported d) = ap Reported (div-add-mod' d 256)
 
-end-back : (e : Endpoint) (r : List ℕ) → endpointIn (storeEnd e r) ≡ e
+pub end-back : (e : Endpoint) (r : List ℕ) → endpointIn (storeEnd e r) ≡ e
 unfolding endpointIn storeEnd headOf front
 end-back e r = λ i.
     record {
@@ -84,7 +81,7 @@ end-back e r = λ i.
       config = take-append-seam (e .config) (drop (length (headOf e ++ e .config)) r) i
     }
 
-gathering-back : (g : Option Gathering) (r : List ℕ) → gatheringIn (storeGathering g r) ≡ g
+pub gathering-back : (g : Option Gathering) (r : List ℕ) → gatheringIn (storeGathering g r) ≡ g
 unfolding gatheringIn gatheringAt storeGathering gatheringHead front
 gathering-back none r = refl
 gathering-back (some g) r = λ i.
@@ -103,18 +100,17 @@ gathering-back (some g) r = λ i.
     })
 
 -- a stored record is as long as what it replaces, and its octets are right
-end-length : (e : Endpoint) (r : List ℕ) → length (e .config) ≤ 64 → length r ≡ recordRoom → length (storeEnd e r) ≡ recordRoom
+pub end-length : (e : Endpoint) (r : List ℕ) → length (e .config) ≤ 64 → length r ≡ recordRoom → length (storeEnd e r) ≡ recordRoom
 unfolding storeEnd headOf
 end-length e r short long = front-length (headOf e ++ e .config) r (omega arith) ∙ long
 
-gathering-length : (g : Option Gathering) (r : List ℕ) → PayloadFits g → length r ≡ gatheringRoom
+pub gathering-length : (g : Option Gathering) (r : List ℕ) → PayloadFits g → length r ≡ gatheringRoom
     → length (storeGathering g r) ≡ gatheringRoom
 unfolding storeGathering gatheringHead
 gathering-length none r fits long = front-length (0 ∷ []) r (omega arith) ∙ long
 gathering-length (some g) r fits long = front-length (gatheringHead g ++ g .message .payload) r (omega arith) ∙ long
 
 state-written : (s : State) → leb (stateOctet s) 5 ≡ true
-unfolding stateOctet
 state-written Idle = refl
 state-written Configured = refl
 state-written Open = refl
@@ -123,22 +119,20 @@ state-written Closing = refl
 state-written Aborting = refl
 
 channel-written : (c : Channel) → leb (channelOctet c) 2 ≡ true
-unfolding channelOctet
 channel-written Absent = refl
 channel-written Awaited = refl
 channel-written Up = refl
 
 delay-written : (d : Delay)
     → eqb (delayMark d) 1 || (eqb (delayMark d) 0 && eqb (delayTenths d / 256) 0 && eqb (delayTenths d % 256) 0) ≡ true
-unfolding delayMark delayTenths
 delay-written Unreported = refl
 delay-written (Reported d) = refl
 
-end-right : (e : Endpoint) (r : List ℕ) → leb (length (e .config)) 64 ≡ true → recordRight (storeEnd e r) ≡ true
+pub end-right : (e : Endpoint) (r : List ℕ) → leb (length (e .config)) 64 ≡ true → recordRight (storeEnd e r) ≡ true
 unfolding recordRight storeEnd headOf front
 end-right e r short = simp (state-written (e .state), channel-written (e .channel), delay-written (e .delay), short)
 
-gathering-right : (g : Option Gathering) (r : List ℕ) → PayloadFits g → gatheringOctetsRight (storeGathering g r) ≡ true
+pub gathering-right : (g : Option Gathering) (r : List ℕ) → PayloadFits g → gatheringOctetsRight (storeGathering g r) ≡ true
 unfolding gatheringOctetsRight storeGathering gatheringHead front longest
 gathering-right none r fits = refl
 gathering-right (some g) r fits = rw (div-add-mod' (length (g .message .payload)) 256) (le-leb _ _ fits)
@@ -146,17 +140,17 @@ gathering-right (some g) r fits = rw (div-add-mod' (length (g .message .payload)
 -- ---- All records
 
 -- the endpoints have room in these octets, one record each
-record Fits (ends : Ends) (l : List ℕ) : Type 0 where
-  short : shortConfigs ends ≡ true
-  room : length ends * recordRoom ≤ length l
+pub record Fits (ends : Ends) (l : List ℕ) : Type 0 where
+  pub short : shortConfigs ends ≡ true
+  pub room : length ends * recordRoom ≤ length l
 
-first-room : (n : ℕ) (l : List ℕ) → suc n * recordRoom ≤ length l → length (take recordRoom l) ≡ recordRoom
+pub first-room : (n : ℕ) (l : List ℕ) → suc n * recordRoom ≤ length l → length (take recordRoom l) ≡ recordRoom
 first-room n l room = length-take-le recordRoom l (omega arith)
 
-rest-room : (n : ℕ) (l : List ℕ) → suc n * recordRoom ≤ length l → n * recordRoom ≤ length (drop recordRoom l)
+pub rest-room : (n : ℕ) (l : List ℕ) → suc n * recordRoom ≤ length l → n * recordRoom ≤ length (drop recordRoom l)
 rest-room n l room = rw length-drop (omega arith)
 
-drop-first : (n : ℕ) (l : List ℕ) → drop (suc n * recordRoom) l ≡ drop (n * recordRoom) (drop recordRoom l)
+pub drop-first : (n : ℕ) (l : List ℕ) → drop (suc n * recordRoom) l ≡ drop (n * recordRoom) (drop recordRoom l)
 drop-first n l =
     let e : suc n * recordRoom ≡ recordRoom + n * recordRoom = omega arith in
     ap (λ (k : ℕ). drop k l) e ∙ sym (drop-drop (n * recordRoom) recordRoom l)
@@ -186,21 +180,21 @@ module _ (e : Endpoint) (ends : Ends) (l : List ℕ) (fits : Fits (e ∷ ends) l
   unfolding storeEnds
   rest-stored = drop-at (storeEnd e (take recordRoom l)) (storeEnds ends (drop recordRoom l)) recordRoom first-length
 
-ends-length : (ends : Ends) (l : List ℕ) → Fits ends l → length (storeEnds ends l) ≡ length l
+pub ends-length : (ends : Ends) (l : List ℕ) → Fits ends l → length (storeEnds ends l) ≡ length l
 unfolding storeEnds
 ends-length [] l fits = refl
 ends-length (e ∷ ends) l fits =
     let rest = ends-length ends (drop recordRoom l) (rest-fits e ends l fits) in
     simp (length-append, first-length e ends l fits, rest, length-drop) (omega arith)
 
-ends-back : (ends : Ends) (l : List ℕ) → Fits ends l → endsIn (length ends) (storeEnds ends l) ≡ ends
+pub ends-back : (ends : Ends) (l : List ℕ) → Fits ends l → endsIn (length ends) (storeEnds ends l) ≡ ends
 unfolding endsIn storeEnds
 ends-back [] l fits = refl
 ends-back (e ∷ ends) l fits =
     rw (first-stored e ends l fits, rest-stored e ends l fits)
       (ap₂ _∷_ (end-back e (take recordRoom l)) (ends-back ends (drop recordRoom l) (rest-fits e ends l fits)))
 
-ends-right : (ends : Ends) (l : List ℕ) → Fits ends l → recordsRight (length ends) (storeEnds ends l) ≡ true
+pub ends-right : (ends : Ends) (l : List ℕ) → Fits ends l → recordsRight (length ends) (storeEnds ends l) ≡ true
 unfolding recordsRight storeEnds
 ends-right [] l fits = refl
 ends-right (e ∷ ends) l fits =
@@ -208,7 +202,7 @@ ends-right (e ∷ ends) l fits =
       (and-both _ _ (end-right e (take recordRoom l) (first-short e ends l fits))
         (ends-right ends (drop recordRoom l) (rest-fits e ends l fits)))
 
-ends-behind : (ends : Ends) (l : List ℕ) → Fits ends l
+pub ends-behind : (ends : Ends) (l : List ℕ) → Fits ends l
     → drop (length ends * recordRoom) (storeEnds ends l) ≡ drop (length ends * recordRoom) l
 unfolding storeEnds
 ends-behind [] l fits = refl
@@ -221,11 +215,11 @@ ends-behind (e ∷ ends) l fits =
 -- ---- The connection
 
 -- octets for the gathering, and for the records behind it
-gathering-room : (n : ℕ) (l : List ℕ) → areaFor n ≤ length l → length (take gatheringRoom l) ≡ gatheringRoom
+pub gathering-room : (n : ℕ) (l : List ℕ) → areaFor n ≤ length l → length (take gatheringRoom l) ≡ gatheringRoom
 unfolding areaFor
 gathering-room n l area = length-take-le gatheringRoom l (omega arith)
 
-records-room : (n : ℕ) (l : List ℕ) → areaFor n ≤ length l → n * recordRoom ≤ length (drop gatheringRoom l)
+pub records-room : (n : ℕ) (l : List ℕ) → areaFor n ≤ length l → n * recordRoom ≤ length (drop gatheringRoom l)
 unfolding areaFor
 records-room n l area = rw length-drop (omega arith)
 
@@ -283,17 +277,14 @@ module _ (c : Connection) (l : List ℕ) (roomy : Roomy c l) where
 
 -- ---- Storing what was read
 
-abbrev pub octetsIn : List ℕ → Bool
-octetsIn l = each-of (λ (o : ℕ). ltb o 256) l
-
 -- an octet past the end is read as 0
-octet-at : (l : List ℕ) (i : ℕ) → octetsIn l ≡ true → getD l i 0 < 256
+pub octet-at : (l : List ℕ) (i : ℕ) → octetsIn l ≡ true → getD l i 0 < 256
 unfolding each-of
 octet-at [] i e = lit< tt
 octet-at (o ∷ l) zero e = ltb-true o 256 (and-l (ltb o 256) (octetsIn l) e)
 octet-at (o ∷ l) (suc i) e = octet-at l i (and-r (ltb o 256) (octetsIn l) e)
 
-octets-take : (n : ℕ) (l : List ℕ) → octetsIn l ≡ true → octetsIn (take n l) ≡ true
+pub octets-take : (n : ℕ) (l : List ℕ) → octetsIn l ≡ true → octetsIn (take n l) ≡ true
 unfolding each-of
 octets-take zero l e = refl
 octets-take (suc n) [] e = refl
@@ -301,14 +292,14 @@ octets-take (suc n) (o ∷ l) e =
     and-both (ltb o 256) (octetsIn (take n l)) (and-l (ltb o 256) (octetsIn l) e)
       (octets-take n l (and-r (ltb o 256) (octetsIn l) e))
 
-octets-drop : (n : ℕ) (l : List ℕ) → octetsIn l ≡ true → octetsIn (drop n l) ≡ true
+pub octets-drop : (n : ℕ) (l : List ℕ) → octetsIn l ≡ true → octetsIn (drop n l) ≡ true
 unfolding each-of
 octets-drop zero l e = e
 octets-drop (suc n) [] e = refl
 octets-drop (suc n) (o ∷ l) e = octets-drop n l (and-r (ltb o 256) (octetsIn l) e)
 
 -- writing what is there changes nothing
-front-same : (s r : List ℕ) (n : ℕ) → s ≡ take n r → n ≤ length r → front s r ≡ r
+pub front-same : (s r : List ℕ) (n : ℕ) → s ≡ take n r → n ≤ length r → front s r ≡ r
 unfolding front
 front-same s r n e h = rw e (rw (length-take-le n r h) (take-append-drop n r))
 
@@ -329,7 +320,6 @@ either true b e = inl refl
 either false b e = inr e
 
 state-kept : (o : ℕ) → o ≤ 5 → stateOctet (stateIn o) ≡ o
-unfolding stateIn stateOctet
 state-kept zero h = refl
 state-kept (suc zero) h = refl
 state-kept (suc (suc zero)) h = refl
@@ -339,7 +329,6 @@ state-kept (suc (suc (suc (suc (suc zero))))) h = refl
 state-kept (suc (suc (suc (suc (suc (suc o)))))) h = omega arith
 
 channel-kept : (o : ℕ) → o ≤ 2 → channelOctet (channelIn o) ≡ o
-unfolding channelIn channelOctet
 channel-kept zero h = refl
 channel-kept (suc zero) h = refl
 channel-kept (suc (suc zero)) h = refl
@@ -351,7 +340,6 @@ delayOctets d = delayMark d ∷ delayTenths d / 256 ∷ delayTenths d % 256 ∷ 
 
 delay-kept : (mark high low : ℕ) → low < 256 → eqb mark 1 || (eqb mark 0 && eqb high 0 && eqb low 0) ≡ true
     → delayOctets (delayIn mark (pairIn high low)) ≡ mark ∷ high ∷ low ∷ []
-unfolding delayIn delayMark delayTenths
 delay-kept mark high low small e = go (either (eqb mark 1) (eqb mark 0 && eqb high 0 && eqb low 0) e)
   where
     go : (eqb mark 1 ≡ true) ⊎ (eqb mark 0 && eqb high 0 && eqb low 0 ≡ true)
@@ -390,7 +378,7 @@ module _ (r : List ℕ) (long : length r ≡ recordRoom) (right : recordRight r 
   config-room : 8 + getD r 7 0 ≤ length r
   config-room = let short = config-right r right in omega arith
 
-  head-kept : headOf (endpointIn r) ≡ take 8 r
+  pub head-kept : headOf (endpointIn r) ≡ take 8 r
   unfolding headOf endpointIn
   head-kept =
       rw (state-kept _ (state-right r right), channel-kept _ (channel-right r right), body-length (getD r 7 0) r config-room)
@@ -398,7 +386,7 @@ module _ (r : List ℕ) (long : length r ≡ recordRoom) (right : recordRight r 
             (delay-kept (getD r 4 0) (getD r 5 0) (getD r 6 0) (octet-at r 6 octets) (delay-right r right))
           ∙ first-eight r (omega arith))
 
-  end-kept : storeEnd (endpointIn r) r ≡ r
+  pub end-kept : storeEnd (endpointIn r) r ≡ r
   unfolding storeEnd endpointIn
   end-kept = body-kept (headOf (endpointIn r)) (getD r 7 0) r head-kept config-room
 
@@ -413,7 +401,7 @@ gathering-head-kept r mark room octets =
     rw (← first-eight r (omega arith), mark, body-length (payloadLength r) r room,
         digits-div (getD r 6 0) (octet-at r 7 octets), digits-mod (getD r 6 0) (octet-at r 7 octets))
 
-gathering-kept : (r : List ℕ) → length r ≡ gatheringRoom → gatheringOctetsRight r ≡ true → octetsIn r ≡ true
+pub gathering-kept : (r : List ℕ) → length r ≡ gatheringRoom → gatheringOctetsRight r ≡ true → octetsIn r ≡ true
     → storeGathering (gatheringIn r) r ≡ r
 unfolding gatheringOctetsRight gatheringIn storeGathering gatheringAt longest
 gathering-kept r long right octets =
@@ -431,7 +419,7 @@ gathering-kept r long right octets =
         rw mark
           (body-kept (gatheringHead (gatheringAt r)) (payloadLength r) r (gathering-head-kept r mark room octets) room)
 
-ends-kept : (n : ℕ) (l : List ℕ) → n * recordRoom ≤ length l → recordsRight n l ≡ true → octetsIn l ≡ true
+pub ends-kept : (n : ℕ) (l : List ℕ) → n * recordRoom ≤ length l → recordsRight n l ≡ true → octetsIn l ≡ true
     → storeEnds (endsIn n l) l ≡ l
 unfolding endsIn recordsRight storeEnds
 ends-kept zero l room right octets = refl
@@ -460,11 +448,11 @@ unfolding endsIn
 length-endsIn zero l = refl
 length-endsIn (suc n) l = ap suc (length-endsIn n (drop recordRoom l))
 
-read-config : (r : List ℕ) → recordRight r ≡ true → length (endpointIn r .config) ≤ 64
+pub read-config : (r : List ℕ) → recordRight r ≡ true → length (endpointIn r .config) ≤ 64
 unfolding endpointIn
 read-config r right = omega (arith, config-right r right, length-take (getD r 7 0) (drop 8 r))
 
-read-short : (n : ℕ) (l : List ℕ) → recordsRight n l ≡ true → shortConfigs (endsIn n l) ≡ true
+pub read-short : (n : ℕ) (l : List ℕ) → recordsRight n l ≡ true → shortConfigs (endsIn n l) ≡ true
 unfolding endsIn recordsRight each-of
 read-short zero l right = refl
 read-short (suc n) l right =
@@ -498,7 +486,7 @@ read-rooms n l area gathering records =
 pub roomy-length : (c : Connection) (l m : List ℕ) → length m ≡ length l → Roomy c l → Roomy c m
 roomy-length c l m same roomy = record { area = rw same (roomy .area); configs = roomy .configs; payload = roomy .payload }
 
-short-set : (ends : Ends) (i : ℕ) (e : Endpoint) → shortConfigs ends ≡ true → length (e .config) ≤ 64
+pub short-set : (ends : Ends) (i : ℕ) (e : Endpoint) → shortConfigs ends ≡ true → length (e .config) ≤ 64
     → shortConfigs (set ends i e) ≡ true
 unfolding each-of
 short-set [] i e all short = refl

@@ -15,10 +15,9 @@ use Rattle.rules.specs.Endpoints.{idle, freshEnds, freshConnection, isAb
 use Rattle.rules.specs.Endpoints.{channelRight, takesDelay, delayRight, farRight, keepsNothing, keepsSettings, legalEnd}
 use Rattle.rules.specs.Endpoints.{legalEnds, awaiting, legalGathering, legal, inState, withChannel, withDelay, withConfig}
 use Rattle.rules.specs.Endpoints.{forgotten, leaving, endAt, upIn, withEnds, downAt, happens}
-use Rattle.rules.specs.Saved.{areaFor, stateIn, stateOctet, channelIn, channelOctet, delayIn, delayMark, delayTenths}
-use Rattle.rules.specs.Saved.{endpointIn, recordRight, headOf, storeEnd, endsIn, recordsRight, storeEnds, gatheringAt}
-use Rattle.rules.specs.Saved.{gatheringIn, gatheringOctetsRight, gatheringHead, storeGathering, connectionIn, store}
-use Rattle.rules.specs.Saved.{savedRight}
+use Rattle.rules.specs.Saved.{areaFor, endpointIn, recordRight, headOf, storeEnd, endsIn, recordsRight, storeEnds}
+use Rattle.rules.specs.Saved.{gatheringAt, gatheringIn, gatheringOctetsRight, gatheringHead, storeGathering, connectionIn}
+use Rattle.rules.specs.Saved.{store, savedRight}
 use Rattle.rules.specs.Commands.{stays, moves, rejectBare, rejectElement, rejectSeid, ourIn, farIn, foundOr, atEndpoint}
 use Rattle.rules.specs.Commands.{isConfigured, isOpen, isStreaming, isSet, inUse, discovered, discover, capabilities}
 use Rattle.rules.specs.Commands.{settled, setAt, setConfiguration, getConfiguration, reconfigureAt, reconfigure, openUp}
@@ -38,13 +37,12 @@ unfolding between sameOctets member isEmpty some-of each-of front headed itemsPa
     gathers extended begin isNext joined goesOn taken gather gatheringRight packetsFor partOf firstOctet header countOf
     packetAt packetsFrom cutUp withDone gatherAll idle freshEnds freshConnection isAbsent isAwaited isUp isIdle isReported
     channelRight takesDelay delayRight farRight keepsNothing keepsSettings legalEnd legalEnds awaiting legalGathering
-    legal inState withChannel withDelay withConfig forgotten leaving endAt upIn withEnds downAt happens areaFor stateIn
-    stateOctet channelIn channelOctet delayIn delayMark delayTenths endpointIn recordRight headOf storeEnd endsIn
-    recordsRight storeEnds gatheringAt gatheringIn gatheringOctetsRight gatheringHead storeGathering connectionIn store
-    savedRight stays moves rejectBare rejectElement rejectSeid ourIn farIn foundOr atEndpoint isConfigured isOpen
-    isStreaming isSet inUse discovered discover capabilities settled setAt setConfiguration getConfiguration reconfigureAt
-    reconfigure openUp mayStart maySuspend turnOne turnEach turn close abort securityControl delayReport signalOf obey
-    answer checkCall numberOr savedNumber refusalOf packetRefusal freshCall nothingSaid said toldOf payloadOf turnOf takes
-    packetCall eventCall settingsOf shownAt settingsCall heard heardAt delayCall packetsCall cutRefusal cutCall keptBy
-    answered asked call answers after
+    legal inState withChannel withDelay withConfig forgotten leaving endAt upIn withEnds downAt happens areaFor endpointIn
+    recordRight headOf storeEnd endsIn recordsRight storeEnds gatheringAt gatheringIn gatheringOctetsRight gatheringHead
+    storeGathering connectionIn store savedRight stays moves rejectBare rejectElement rejectSeid ourIn farIn foundOr
+    atEndpoint isConfigured isOpen isStreaming isSet inUse discovered discover capabilities settled setAt setConfiguration
+    getConfiguration reconfigureAt reconfigure openUp mayStart maySuspend turnOne turnEach turn close abort
+    securityControl delayReport signalOf obey answer checkCall numberOr savedNumber refusalOf packetRefusal freshCall
+    nothingSaid said toldOf payloadOf turnOf takes packetCall eventCall settingsOf shownAt settingsCall heard heardAt
+    delayCall packetsCall cutRefusal cutCall keptBy answered asked call answers after
 computed = tt

@@ -11,6 +11,7 @@ pub mod Host
 pub mod Sessions
 pub mod Walks
 pub mod Wires
+pub mod Answers
 pub mod Alike
 pub mod Moves
 pub mod Computed

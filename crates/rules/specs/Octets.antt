@@ -3,7 +3,7 @@ use Prim.Native.Nat.{ℕ}
 use mathlib.Core.List.{List, [], _∷_, _++_}
 use mathlib.Core.Bool.{Bool, true, false, _&&_, _||_}
 use lib.ListN.{length, drop}
-use lib.Dec.{leb, eqb}
+use lib.Dec.{leb, ltb, eqb}
 
 infixr 5 if_then_else_
 abbrev pub if_then_else_ {ℓ} : {A : Type ℓ} → Bool → A → A → A
@@ -38,6 +38,10 @@ module _ {A : Type 0} where
   unfoldable pub each-of : (A → Bool) → List A → Bool
   each-of p [] = true
   each-of p (x ∷ xs) = p x && each-of p xs
+
+-- every number of a list is an octet
+abbrev pub octetsIn : List ℕ → Bool
+octetsIn l = each-of (λ (o : ℕ). ltb o 256) l
 
 -- What a lent area holds once s was written at its front: the octets behind stay.
 unfoldable pub front : List ℕ → List ℕ → List ℕ

@@ -41,10 +41,10 @@ areaFor n = gatheringRoom + n * recordRoom
 
 -- ---- One record
 
-unfoldable pub stateIn : ℕ → State
+abbrev pub stateIn : ℕ → State
 stateIn o = getD (Idle ∷ Configured ∷ Open ∷ Streaming ∷ Closing ∷ Aborting ∷ []) o Idle
 
-unfoldable pub stateOctet : State → ℕ
+abbrev pub stateOctet : State → ℕ
 stateOctet Idle = 0
 stateOctet Configured = 1
 stateOctet Open = 2
@@ -52,22 +52,22 @@ stateOctet Streaming = 3
 stateOctet Closing = 4
 stateOctet Aborting = 5
 
-unfoldable pub channelIn : ℕ → Channel
+abbrev pub channelIn : ℕ → Channel
 channelIn o = getD (Absent ∷ Awaited ∷ Up ∷ []) o Absent
 
-unfoldable pub channelOctet : Channel → ℕ
+abbrev pub channelOctet : Channel → ℕ
 channelOctet Absent = 0
 channelOctet Awaited = 1
 channelOctet Up = 2
 
-unfoldable pub delayIn : ℕ → ℕ → Delay
+abbrev pub delayIn : ℕ → ℕ → Delay
 delayIn mark tenths = if eqb mark 0 then Unreported else Reported tenths
 
-unfoldable pub delayMark : Delay → ℕ
+abbrev pub delayMark : Delay → ℕ
 delayMark Unreported = 0
 delayMark (Reported d) = 1
 
-unfoldable pub delayTenths : Delay → ℕ
+abbrev pub delayTenths : Delay → ℕ
 delayTenths Unreported = 0
 delayTenths (Reported d) = d
 

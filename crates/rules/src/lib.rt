@@ -89,3 +89,9 @@ pub struct Piece {
     pub number: u8,
     pub length: usize,
 }
+
+// What is said to the far end: the message type (0 silence, 1 general reject, 2 accept, 3 reject) and the length of the payload.
+pub struct Said {
+    pub kind: u8,
+    pub length: usize,
+}

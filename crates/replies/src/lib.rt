@@ -1,0 +1,50 @@
+// Replies that a command writes at the front of the reply area, and what is said without writing.
+use rules::Said;
+
+ghost use mathlib.Core.Path.{_≡_};
+ghost use mathlib.Core.List.{[], _∷_};
+ghost use Prim.Native.Nat.{_≤_};
+ghost use lib.ListN.{length};
+ghost use Rattle.rules.specs.Octets.{front};
+ghost use Rattle.rules.specs.Commands.{silence, generalReject, accept, reject};
+ghost use Rattle.rules.specs.Answers.{saidOf};
+
+pub fn silent() -> Said
+    ensures { λ r. ⌜ r ≡ saidOf silence ⌝ }
+{
+    Said { kind: 0, length: 0 }
+}
+
+pub fn general() -> Said
+    ensures { λ r. ⌜ r ≡ saidOf generalReject ⌝ }
+{
+    Said { kind: 1, length: 0 }
+}
+
+// An accept without payload.
+pub fn accepted() -> Said
+    ensures { λ r. ⌜ r ≡ saidOf (accept []) ⌝ }
+{
+    Said { kind: 2, length: 0 }
+}
+
+// A reject of one octet, the code.
+pub fn rejected(reply: &mut [u8], code: u8) -> Said
+    requires { ⌜ 1 ≤ length (now reply) ⌝ }
+    ensures said { λ r. ⌜ r ≡ saidOf (reject (code ∷ [])) ⌝ }
+    ensures reply { λ _. ⌜ now (reply .exit) ≡ front (code ∷ []) (now (reply .entry)) ⌝ }
+{
+    reply[0] = code;
+    Said { kind: 3, length: 1 }
+}
+
+// A reject of two octets, what failed and the code.
+pub fn rejected_for(reply: &mut [u8], what: u8, code: u8) -> Said
+    requires { ⌜ 2 ≤ length (now reply) ⌝ }
+    ensures said { λ r. ⌜ r ≡ saidOf (reject (what ∷ code ∷ [])) ⌝ }
+    ensures reply { λ _. ⌜ now (reply .exit) ≡ front (what ∷ code ∷ []) (now (reply .entry)) ⌝ }
+{
+    reply[0] = what;
+    reply[1] = code;
+    Said { kind: 3, length: 2 }
+}

@@ -1,0 +1,135 @@
+-- What is written at one record's place is what storing the endpoints with that one changed writes.
+use Prim.Native.Nat.{ℕ, zero, suc, _+_, _*_, _-_, _/_, _%_, _≤_, _<_, zero-le}
+use mathlib.Core.Path.{_≡_, refl, sym, ap, ap₂, _∙_, subst}
+use mathlib.Core.List.{List, [], _∷_, _++_, append-assoc}
+use mathlib.Core.Bool.{true}
+use native.Mathlib.Nat.{mul-le-mul-right}
+use native.Mathlib.Omega.{arith}
+use borrow.Author.Tests.{leb-true}
+use lib.Dec.{lit≤}
+use lib.ListN.{length, take, drop, getD, set, length-append, length-take, length-drop, take-append-drop}
+use lib.Seq.{drop-drop}
+use Rattle.rules.specs.Octets.{front}
+use Rattle.rules.specs.Endpoints.{endAt}
+use Rattle.rules.specs.Saved.{recordRoom, endpointIn, headOf, storeEnd, endsIn, storeEnds, stateOctet, channelOctet, delayMark}
+use Rattle.rules.specs.Saved.{delayTenths, recordRight, recordsRight}
+use Rattle.rules.proofs.OneRecord.{end-at, store-one}
+use Rattle.octets.specs.Patch.{patch, part}
+use Rattle.octets.proofs.Patches.{lent-front, part-take}
+use Rattle.rules.proofs.Tests.{and-l, and-r}
+use Rattle.rules.proofs.SavedReads.{drop-first}
+use Rattle.saved.specs.Records.{loaded, endpointOf, headOctets, recordAt, configAt}
+use Rattle.saved.specs.Held.{Held}
+use Rattle.saved.specs.declared.records.Endpoint.{Endpoint as Head}
+
+-- the octets of an endpoint's head, as the definitions and as the code have them
+head-same : (h : Head) (c : List ℕ) → length c ≡ h .length → headOf (endpointOf h c) ≡ headOctets h
+unfolding headOf endpointOf headOctets
+head-same h c e =
+    ap (λ (n : ℕ). h .seid .0 ∷ stateOctet (h .state) ∷ channelOctet (h .channel) ∷ h .far .0 ∷ delayMark (h .delay)
+       ∷ delayTenths (h .delay) / 256 ∷ delayTenths (h .delay) % 256 ∷ n ∷ []) e
+
+-- a write within one record
+within-record : (i : ℕ) (s l : List ℕ) → length s ≤ recordRoom
+  → take (i * recordRoom) l ++ (front s (recordAt i l) ++ drop (i * recordRoom + recordRoom) l) ≡ patch (i * recordRoom) s l
+within-record i s l h =
+    ap (λ (x : List ℕ). take (i * recordRoom) l ++ (front s (recordAt i l) ++ x)) (sym (drop-drop recordRoom (i * recordRoom) l))
+    ∙ lent-front (i * recordRoom) recordRoom s l h
+
+eight-more : (h : Head) (c : List ℕ) → length c ≤ 64 → length (headOctets h ++ c) ≤ recordRoom
+unfolding headOctets
+eight-more h c e = omega arith
+
+-- the head and the configuration of one endpoint written
+pub stored-one : (n i : ℕ) (l : List ℕ) (h : Head) (c : List ℕ) → i < n → Held n l → length c ≡ h .length → length c ≤ 64
+  → patch (i * recordRoom) (headOctets h ++ c) l ≡ storeEnds (set (endsIn n l) i (endpointOf h c)) l
+unfolding storeEnd endpointOf
+stored-one n i l h c inside held e short =
+    sym (store-one n i l (endpointOf h c) inside (held .room) (held .right) (held .octets)
+      ∙ ap (λ (s : List ℕ). take (i * recordRoom) l ++ (front (s ++ c) (recordAt i l) ++ drop (i * recordRoom + recordRoom) l))
+          (head-same h c e)
+      ∙ within-record i (headOctets h ++ c) l (eight-more h c short))
+
+-- the endpoint at a place, as the code has it
+pub loaded-one : (n i : ℕ) (l : List ℕ) → i < n → endAt (endsIn n l) i ≡ endpointOf (loaded (recordAt i l)) (configAt i l)
+unfolding endpointIn endpointOf loaded configAt
+loaded-one n i l inside = end-at n i l inside
+
+lengths-sum : (at : ℕ) (s c : List ℕ) → at + length s + length c ≡ at + length (s ++ c)
+lengths-sum at s c = simp length-append (omega arith)
+
+-- the head alone written, where the configuration stands already
+pub head-alone : (at : ℕ) (s c l : List ℕ) → c ≡ take (length c) (drop (at + length s) l) → patch at s l ≡ patch at (s ++ c) l
+unfolding patch
+head-alone at s c l e =
+    ap (λ (x : List ℕ). take at l ++ (s ++ x))
+      (sym (take-append-drop (length c) (drop (at + length s) l))
+       ∙ ap₂ _++_ (sym e) (drop-drop (length c) (at + length s) l))
+    ∙ ap (λ (x : List ℕ). take at l ++ x) (sym (append-assoc s c (drop (at + length s + length c) l)))
+    ∙ ap (λ (k : ℕ). take at l ++ ((s ++ c) ++ drop k l)) (lengths-sum at s c)
+
+-- reading and writing one record through a part that is lent
+span : (i : ℕ) → i * 80 + 80 - i * 80 ≡ 80
+span i = omega arith
+
+pub get-by : (i : ℕ) (l : List ℕ) (h : Head) → h ≡ loaded (take (i * 80 + 80 - i * 80) (drop (i * 80) l)) → h ≡ loaded (recordAt i l)
+get-by i l h e = e ∙ ap (λ (k : ℕ). loaded (take k (drop (i * 80) l))) (span i)
+
+pub set-by : (i : ℕ) (l m : List ℕ) (e : Head) → m ≡ headOctets e ++ drop 8 (take (i * 80 + 80 - i * 80) (drop (i * 80) l))
+  → take (i * 80) l ++ (m ++ drop (i * 80 + 80 - i * 80) (drop (i * 80) l)) ≡ patch (i * recordRoom) (headOctets e) l
+unfolding headOctets front
+set-by i l m e q =
+    ap (λ (x : List ℕ). take (i * 80) l ++ (x ++ drop (i * 80 + 80 - i * 80) (drop (i * 80) l))) q
+    ∙ ap (λ (x : ℕ). take (i * 80) l ++ ((headOctets e ++ drop 8 (take x (drop (i * 80) l))) ++ drop x (drop (i * 80) l))) (span i)
+    ∙ lent-front (i * 80) 80 (headOctets e) l (lit≤ tt)
+
+-- ---- The head alone is written: the configuration that stands there stays, or there is none any more
+
+-- a record's octets are right
+record-right : (n i : ℕ) (l : List ℕ) → i < n → recordsRight n l ≡ true → recordRight (recordAt i l) ≡ true
+unfolding recordsRight
+record-right zero i l h e = absurd (omega arith)
+record-right (suc n) zero l h e = and-l (recordRight (take recordRoom l)) (recordsRight n (drop recordRoom l)) e
+record-right (suc n) (suc i) l h e =
+    subst (λ (x : List ℕ). recordRight (take recordRoom x) ≡ true) (sym (drop-first i l))
+      (record-right n i (drop recordRoom l) (omega arith)
+        (and-r (recordRight (take recordRoom l)) (recordsRight n (drop recordRoom l)) e))
+
+length-right : (r : List ℕ) → recordRight r ≡ true → getD r 7 0 ≤ 64
+unfolding recordRight
+length-right r e = leb-true (getD r 7 0) 64 (search (and-l, and-r))
+
+module _ (n i : ℕ) (l : List ℕ) (inside : i < n) (held : Held n l) where
+  record-long : length (recordAt i l) ≡ recordRoom
+  record-long = simp (length-take, length-drop) (omega (arith, held .room, mul-le-mul-right recordRoom inside))
+
+  pub config-short : getD (recordAt i l) 7 0 ≤ 64
+  config-short = length-right (recordAt i l) (record-right n i l inside (held .right))
+
+  pub config-length : length (configAt i l) ≡ loaded (recordAt i l) .length
+  unfolding configAt loaded
+  config-length = simp (length-take, length-drop) (omega (arith, record-long, config-short))
+
+  config-short-loaded : loaded (recordAt i l) .length ≤ 64
+  unfolding loaded
+  config-short-loaded = config-short
+
+  -- the configuration's octets, in the whole area
+  config-there : configAt i l ≡ take (length (configAt i l)) (drop (i * recordRoom + 8) l)
+  unfolding configAt loaded part
+  config-there =
+      let k = getD (recordAt i l) 7 0 in
+      part-take 8 k recordRoom (drop (i * recordRoom) l) (omega (arith, config-short))
+      ∙ ap₂ take (sym config-length) (drop-drop 8 (i * recordRoom) l)
+
+  pub head-moved : (h : Head) → h .length ≡ loaded (recordAt i l) .length
+    → patch (i * recordRoom) (headOctets h) l ≡ storeEnds (set (endsIn n l) i (endpointOf h (configAt i l))) l
+  unfolding headOctets
+  head-moved h e =
+      head-alone (i * recordRoom) (headOctets h) (configAt i l) l config-there
+      ∙ stored-one n i l h (configAt i l) inside held (config-length ∙ sym e) (omega (arith, config-length, config-short-loaded))
+
+  pub head-emptied : (h : Head) → h .length ≡ 0
+    → patch (i * recordRoom) (headOctets h) l ≡ storeEnds (set (endsIn n l) i (endpointOf h [])) l
+  head-emptied h e =
+      head-alone (i * recordRoom) (headOctets h) [] l refl ∙ stored-one n i l h [] inside held (sym e) zero-le

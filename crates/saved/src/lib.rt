@@ -1,0 +1,3 @@
+// The saved connection: one endpoint's record, loaded by value, moved and stored back; legality; link events.
+pub mod records;
+pub mod moves;

@@ -1,0 +1,152 @@
+// One endpoint's record in the saved area: its head of eight octets travels by value, its configuration stays where it is.
+use rules::Channel;
+use rules::Delay;
+use rules::FarSeid;
+use rules::OurSeid;
+use rules::State;
+
+ghost use mathlib.Core.Path.{_≡_};
+ghost use mathlib.Core.List.{_++_};
+ghost use Prim.Native.Nat.{_+_, _*_, _≤_};
+ghost use lib.ListN.{length, drop};
+ghost use Rattle.rules.specs.Saved.{stateIn, stateOctet, channelIn, channelOctet, delayIn, delayMark, delayTenths, pairIn};
+ghost use Rattle.rules.specs.Saved.{recordRoom};
+ghost use Rattle.octets.specs.Patch.{patch};
+ghost use Rattle.saved.specs.Records.{loaded, headOctets, recordAt};
+
+// A record's head: what is there of the endpoint but the octets of its configuration, of which it has the length.
+pub struct Endpoint {
+    pub seid: OurSeid,
+    pub state: State,
+    pub channel: Channel,
+    pub far: FarSeid,
+    pub delay: Delay,
+    pub length: u8,
+}
+
+fn state_in(octet: u8) -> State
+    ensures { λ r. ⌜ r ≡ stateIn octet ⌝ }
+{
+    match octet {
+        1 => State::Configured,
+        2 => State::Open,
+        3 => State::Streaming,
+        4 => State::Closing,
+        5 => State::Aborting,
+        _ => State::Idle,
+    }
+}
+
+fn state_octet(state: State) -> u8
+    ensures { λ r. ⌜ r ≡ stateOctet state ⌝ }
+{
+    match state {
+        State::Idle => 0,
+        State::Configured => 1,
+        State::Open => 2,
+        State::Streaming => 3,
+        State::Closing => 4,
+        State::Aborting => 5,
+    }
+}
+
+fn channel_in(octet: u8) -> Channel
+    ensures { λ r. ⌜ r ≡ channelIn octet ⌝ }
+{
+    match octet {
+        1 => Channel::Awaited,
+        2 => Channel::Up,
+        _ => Channel::Absent,
+    }
+}
+
+fn channel_octet(channel: Channel) -> u8
+    ensures { λ r. ⌜ r ≡ channelOctet channel ⌝ }
+{
+    match channel {
+        Channel::Absent => 0,
+        Channel::Awaited => 1,
+        Channel::Up => 2,
+    }
+}
+
+fn delay_in(mark: u8, high: u8, low: u8) -> Delay
+    ensures { λ r. ⌜ r ≡ delayIn mark (pairIn high low) ⌝ }
+{
+    if mark == 0 {
+        Delay::Unreported
+    } else {
+        Delay::Reported(high as u16 * 256 + low as u16)
+    }
+}
+
+fn delay_mark(delay: Delay) -> u8
+    ensures { λ r. ⌜ r ≡ delayMark delay ⌝ }
+{
+    match delay {
+        Delay::Unreported => 0,
+        Delay::Reported(_) => 1,
+    }
+}
+
+fn delay_tenths(delay: Delay) -> u16
+    ensures { λ r. ⌜ r ≡ delayTenths delay ⌝ }
+{
+    match delay {
+        Delay::Unreported => 0,
+        Delay::Reported(tenths) => tenths,
+    }
+}
+
+pub fn load(slot: &[u8]) -> Endpoint
+    requires { ⌜ 8 ≤ length (now slot) ⌝ }
+    ensures { λ r. ⌜ r ≡ loaded (now (slot .entry)) ⌝ }
+{
+    let state = state_in(slot[1]);
+    let channel = channel_in(slot[2]);
+    let delay = delay_in(slot[4], slot[5], slot[6]);
+    Endpoint {
+        seid: OurSeid(slot[0]),
+        state,
+        channel,
+        far: FarSeid(slot[3]),
+        delay,
+        length: slot[7],
+    }
+}
+
+pub fn put_head(slot: &mut [u8], e: Endpoint)
+    requires { ⌜ 8 ≤ length (now slot) ⌝ }
+    ensures { λ _. ⌜ now (slot .exit) ≡ headOctets e ++ drop 8 (now (slot .entry)) ⌝ }
+{
+    let state = e.state;
+    let channel = e.channel;
+    let delay = e.delay;
+    let tenths = delay_tenths(delay);
+    slot[0] = e.seid.0;
+    slot[1] = state_octet(state);
+    slot[2] = channel_octet(channel);
+    slot[3] = e.far.0;
+    slot[4] = delay_mark(delay);
+    slot[5] = (tenths / 256) as u8;
+    slot[6] = (tenths % 256) as u8;
+    slot[7] = e.length;
+}
+
+// The head of record i.
+pub fn get(records: &[u8], i: usize) -> Endpoint
+    requires { ⌜ (i + 1) * recordRoom ≤ length (now records) ⌝ }
+    ensures { λ r. ⌜ r ≡ loaded (recordAt i (now (records .entry))) ⌝ }
+{
+    let from = i * 80;
+    load(&records[from..from + 80])
+}
+
+// Stores the head of record i; its configuration stays.
+pub fn set(records: &mut [u8], i: usize, e: Endpoint)
+    requires { ⌜ (i + 1) * recordRoom ≤ length (now records) ⌝ }
+    ensures { λ _. ⌜ now (records .exit) ≡ patch (i * recordRoom) (headOctets e) (now (records .entry)) ⌝ }
+{
+    let from = i * 80;
+    put_head(&mut records[from..from + 80], e);
+}
