@@ -175,7 +175,7 @@ module _ (rule : Rule) (caps : List Item) (l : List ℕ) (at : ℕ) (m : Marks) 
 -- ---- A walk from its beginning, with nothing seen
 
 -- what was told tells whether there is a failure, and the marks
-told-clean : (f : Fault) (m n : Marks) → Clean n ≡ walkedAs f m → (eqb (f .code) 0 ≡ true) × (n ≡ m)
+pub told-clean : (f : Fault) (m n : Marks) → Clean n ≡ walkedAs f m → (eqb (f .code) 0 ≡ true) × (n ≡ m)
 unfolding walkedAs
 told-clean f m n e = go (told (eqb (f .code) 0))
   where
@@ -183,7 +183,7 @@ told-clean f m n e = go (told (eqb (f .code) 0))
     go (passed t) = let same : Clean n ≡ Clean m = rw t at e in (t, cc)
     go (failed t) = let other : Clean n ≡ Failed (f .category) (f .code) = rw t at e in (cc, cc)
 
-told-failed : (f : Fault) (m : Marks) (c code : ℕ) → Failed c code ≡ walkedAs f m → eqb (f .code) 0 ≡ false
+pub told-failed : (f : Fault) (m : Marks) (c code : ℕ) → Failed c code ≡ walkedAs f m → eqb (f .code) 0 ≡ false
 unfolding walkedAs
 told-failed f m c code e = go (told (eqb (f .code) 0))
   where

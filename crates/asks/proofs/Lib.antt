@@ -1,0 +1,4 @@
+pub mod Meeting
+pub mod Configs
+pub mod Moving
+pub mod Discovering

@@ -1,0 +1,3 @@
+pub mod Met
+pub mod Done
+pub mod Shown

@@ -1,0 +1,4 @@
+pub mod Keeping
+pub mod EachRecord
+pub mod OneRoom
+pub mod RightSaved

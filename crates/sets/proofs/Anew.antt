@@ -1,0 +1,258 @@
+-- What Reconfigure leads to, by its checks in order, and what is done for it. What is stored is copied and checked again for its
+-- marks: a configuration that could be stored passes, and with the new elements it could be stored again.
+use Prim.Native.Nat.{ℕ, _+_, _*_, _≤_}
+use mathlib.Core.Path.{_≡_, refl, sym, ap, ap₂, _∙_, subst}
+use mathlib.Core.List.{List, [], _∷_}
+use mathlib.Core.Bool.{Bool, true, false}
+use native.Mathlib.Nat.{le-trans}
+use native.Mathlib.Omega.{arith}
+use lib.ListN.{length, take, drop, getD, length-take, length-drop}
+use lib.Seq.{length-take-le, take-add, take-take, drop-at, drop-drop}
+use borrow.Author.Tests.{eqb-true}
+use Rattle.rules.specs.Octets.{front}
+use Rattle.rules.specs.Elements.{items, reconfiguring, faultIn, firstFault, restored, couldStore}
+use Rattle.rules.specs.Book.{Entry, bookOf}
+use Rattle.rules.specs.Walks.{noMarks, marksFrom, judge, walkOf, settingOf}
+use Rattle.rules.specs.Endpoints.{Endpoint, Ends, isIdle, withConfig, endAt}
+use Rattle.rules.specs.Saved.{recordRoom}
+use Rattle.rules.specs.Commands.{accept, reject, stays, moves, rejectElement, isOpen, reconfigureAt, reconfigure}
+use Rattle.rules.specs.Answers.{saidOf}
+use Rattle.rules.specs.declared.Said.{Said}
+use Rattle.rules.specs.declared.Marks.{Marks}
+use Rattle.rules.specs.declared.Rule.the-variants.{Reconfiguring}
+use Rattle.rules.specs.declared.Walked.{Walked}
+use Rattle.rules.specs.declared.Walked.the-variants.{Fault as Failed, Clean}
+use Rattle.rules.proofs.LegalMoves.{busy-keeps, keeps-config}
+use Rattle.rules.proofs.Storable.{restored-could, could-short}
+use Rattle.octets.specs.Patch.{patch, part}
+use Rattle.octets.proofs.Patches.{part-patch}
+use Rattle.lists.proofs.Judging.{walk-begun}
+use Rattle.configs.specs.Stores.{markedStore, MarksFit}
+use Rattle.configs.proofs.Stores.{Stores, could-setting, again-stores}
+use Rattle.saved.specs.Records.{loaded, endpointOf, recordAt, configAt}
+use Rattle.saved.specs.Moved.{reconfiguredHead}
+use Rattle.saved.specs.Serves.{Serves}
+use Rattle.saved.specs.declared.records.Endpoint.{Endpoint as Head}
+use Rattle.sets.specs.Does.{endsOf, Does, Names, Renews, keptOctets}
+use Rattle.sets.proofs.Doings.{at-known, walked-failed, walked-clean, Refuses, refused, moved, entry, met, few, end-here, state-here}
+
+-- ---- The configuration of a record
+
+record-behind : (x : List ℕ) → 8 ≤ length x → drop 8 (take recordRoom x) ≡ take 72 (drop 8 x)
+record-behind x h =
+    ap (drop 8) (take-add 8 72 x) ∙ drop-at (take 8 x) (take 72 (drop 8 x)) 8 (length-take-le 8 x h)
+
+-- as it is read out of the area
+config-part : (i n : ℕ) (l : List ℕ) → (i + 1) * recordRoom ≤ length l → n ≤ 64
+  → take n (drop 8 (recordAt i l)) ≡ part (i * 80 + 8) n l
+unfolding part
+config-part i n l inside short =
+    let behind : 8 ≤ length (drop (i * 80) l) = simp length-drop (omega arith) in
+    ap (take n) (record-behind (drop (i * 80) l) behind)
+    ∙ take-take n 72 (drop 8 (drop (i * 80) l)) (omega arith)
+    ∙ ap (take n) (drop-drop 8 (i * 80) l)
+
+-- one that is no longer than 64 octets has the length that the record tells
+config-told : (i n : ℕ) (l : List ℕ) → (i + 1) * recordRoom ≤ length l → length (take n (drop 8 (recordAt i l))) ≤ 64 → n ≤ 64
+config-told i n l inside short = omega (arith, simp (length-take, length-drop) at short)
+
+-- ---- What is written
+
+module _ {caps records payload : List ℕ} {i : ℕ} {h : Head} {m : Marks} (r : Renews caps records payload i h m) where
+  abbrev anew : List ℕ
+  anew = restored (items (drop 1 payload)) (items (configAt i records))
+
+  size-told : h .length ≡ getD (recordAt i records) 7 0
+  unfolding loaded
+  size-told = ap (λ (x : Head). x .length) (r .head)
+
+  config-short : length (configAt i records) ≤ 64
+  config-short = le-trans (could-short caps (configAt i records) (r .could)) (r .few)
+
+  -- the length fits the copy
+  pub size-short : h .length ≤ 64
+  unfolding configAt
+  size-short = omega (arith, size-told, config-told i (getD (recordAt i records) 7 0) records (r .inside) config-short)
+
+  pub part-room : i * 80 + 8 + h .length ≤ length records
+  part-room = omega (arith, r .inside, size-short)
+
+  config-same : configAt i records ≡ part (i * 80 + 8) (h .length) records
+  unfolding configAt
+  config-same =
+      ap (λ (n : ℕ). take n (drop 8 (recordAt i records))) (sym size-told)
+      ∙ config-part i (h .length) records (r .inside) size-short
+
+  -- what no fault comes to, with no category seen before
+  fine : faultIn reconfiguring (items caps) [] (items (drop 1 payload)) .code ≡ 0
+  unfolding faultIn judge
+  fine =
+      eqb-true _ 0
+        (walked-clean (firstFault (judge Reconfiguring (items caps)) [] (items (drop 1 payload))) (marksFrom payload 1 noMarks) m
+          (sym (walk-begun Reconfiguring (items caps) payload 1) ∙ r .clean))
+
+  pub anew-short : length anew ≤ 64
+  anew-short =
+      le-trans
+        (could-short caps anew (restored-could (items caps) (items (drop 1 payload)) (configAt i records) (r .could) fine))
+        (r .few)
+
+  -- what is stored, copied
+  module _ {p : List ℕ} (q : p ≡ part (i * 80 + 8) (h .length) records) where
+    part-size : length p ≡ h .length
+    unfolding part
+    part-size =
+        let room : h .length ≤ length (drop (i * 80 + 8) records) = simp length-drop (omega (arith, r .inside, size-short)) in
+        ap length q ∙ length-take-le (h .length) (drop (i * 80 + 8) records) room
+
+    pub copy-fits : 0 + length p ≤ 64
+    copy-fits = omega (arith, part-size, size-short)
+
+    pub copied : (zeros : List ℕ) {copy : List ℕ} → length zeros ≡ 64 → copy ≡ patch 0 p zeros → take (h .length) copy ≡ configAt i records
+    unfolding part
+    copied zeros n e =
+        ap₂ take (sym part-size) e ∙ part-patch 0 p zeros (omega (arith, copy-fits)) ∙ q ∙ sym config-same
+
+  module _ {old : List ℕ} (same : old ≡ configAt i records) where
+    pub old-short : length old ≤ 65535
+    old-short = omega (arith, ap length same, config-short)
+
+    -- what is stored has no fault
+    pub never : {A : Type 0} {c code : ℕ} → settingOf (items caps) old 0 ≡ Failed c code → A
+    never {A} {c} {code} e =
+        let p : Clean (marksFrom (configAt i records) 0 noMarks) ≡ Failed c code =
+              sym (could-setting (items caps) (configAt i records) (r .could))
+              ∙ ap (λ (l : List ℕ). settingOf (items caps) l 0) (sym same) ∙ e in
+        let z : _≡_ {A = ℕ} 0 1 = cc in
+        absurd (omega arith)
+
+    module _ {k : Marks} (e : settingOf (items caps) old 0 ≡ Clean k) where
+      stores : Stores payload m old k (restored (items (drop 1 payload)) (items old))
+      stores = again-stores (items caps) payload 1 old (r .clean) e
+
+      store-same : markedStore payload m old k ≡ anew
+      store-same = stores .same ∙ ap (λ (l : List ℕ). restored (items (drop 1 payload)) (items l)) same
+
+      pub renew-keeps : ((i + 1) * recordRoom ≤ length records) × MarksFit payload m × MarksFit old k
+        × (length (markedStore payload m old k) ≤ 64)
+      renew-keeps =
+          (r .inside, stores .fresh, stores .left, subst (λ (l : List ℕ). length l ≤ 64) (sym store-same) anew-short)
+
+      pub renew-writes : {records′ : List ℕ}
+        → records′ ≡ patch (i * recordRoom) (keptOctets h (markedStore payload m old k)) records
+        → records′ ≡ patch (i * recordRoom) (keptOctets h anew) records
+      renew-writes wrote = wrote ∙ ap (λ (l : List ℕ). patch (i * recordRoom) (keptOctets h l) records) store-same
+
+-- ---- By the checks in order
+
+module _ (ends : Ends) (p : List ℕ) (i : ℕ) (n : Entry) where
+  anew-idle : isIdle (endAt ends i .state) ≡ true → reconfigureAt ends p i n ≡ stays ends (rejectElement 0 0x14)
+  unfolding reconfigureAt
+  anew-idle idle = rw idle
+
+  module _ (busy : isIdle (endAt ends i .state) ≡ false) where
+    anew-closed : isOpen (endAt ends i .state) ≡ false → reconfigureAt ends p i n ≡ stays ends (rejectElement 0 0x31)
+    unfolding reconfigureAt
+    anew-closed closed = rw (busy, closed)
+
+    module _ (opened : isOpen (endAt ends i .state) ≡ true) where
+      anew-fault : (c code : ℕ) → walkOf Reconfiguring (items (n .caps)) p 1 noMarks ≡ Failed c code
+        → reconfigureAt ends p i n ≡ stays ends (rejectElement c code)
+      unfolding reconfigureAt faultIn judge
+      anew-fault c code e =
+          let f =
+                walked-failed (firstFault (judge Reconfiguring (items (n .caps))) [] (items (drop 1 p))) (marksFrom p 1 noMarks) c code
+                  (sym (walk-begun Reconfiguring (items (n .caps)) p 1) ∙ e) in
+          rw (busy, opened, f .0, f .1, f .2)
+
+      anew-clean : (m : Marks) → walkOf Reconfiguring (items (n .caps)) p 1 noMarks ≡ Clean m
+        → reconfigureAt ends p i n
+          ≡ moves ends i (withConfig (restored (items (drop 1 p)) (items (endAt ends i .config))) (endAt ends i))
+      unfolding reconfigureAt faultIn judge
+      anew-clean m e =
+          rw (busy, opened,
+            walked-clean (firstFault (judge Reconfiguring (items (n .caps))) [] (items (drop 1 p))) (marksFrom p 1 noMarks) m
+              (sym (walk-begun Reconfiguring (items (n .caps)) p 1) ∙ e))
+
+-- the endpoint that is configured anew
+anew-as : (h : Head) (old config : List ℕ)
+  → endpointOf (reconfiguredHead (length config) h) config ≡ withConfig config (endpointOf h old)
+unfolding endpointOf withConfig
+anew-as h old config = refl
+
+-- ---- What is done at the endpoint that the payload names
+
+module _ {book payload records reply : List ℕ} {i from size : ℕ} (serves : Serves book records payload reply)
+    (names : Names book payload i from size) {h : Head} (here : h ≡ loaded (recordAt i records)) where
+  -- what the check of the elements finds
+  abbrev Finds : Walked → Type 0
+  Finds w = walkOf Reconfiguring (items (take size (drop from book))) payload 1 noMarks ≡ w
+
+  config-here : endAt (endsOf book records) i .config ≡ configAt i records
+  unfolding endpointOf
+  config-here = ap (λ (e : Endpoint). e .config) (end-here serves names here)
+
+  pub renews : {caps : List ℕ} {m : Marks} → isIdle (h .state) ≡ false → caps ≡ take size (drop from book) → Finds (Clean m)
+    → Renews caps records payload i h m
+  renews {caps} {m} busy same e =
+      let it = endAt (endsOf book records) i in
+      let kept : couldStore (items (take size (drop from book))) (it .config) ≡ true =
+            keeps-config (entry serves names) it
+              (busy-keeps (entry serves names) it (met serves names .lawful) (ap isIdle (state-here serves names here) ∙ busy)) in
+      subst (λ (l : List ℕ). Renews l records payload i h m) (sym same)
+        (record {
+          inside = met serves names .inside;
+          head = here;
+          could = subst (λ (l : List ℕ). couldStore (items (take size (drop from book))) l ≡ true) config-here kept;
+          few = few serves names;
+          short = serves .short;
+          clean = e
+        })
+
+  module _ (long : 3 ≤ length payload) where
+    outcome : reconfigure (bookOf book) (endsOf book records) payload ≡ reconfigureAt (endsOf book records) payload i (entry serves names)
+    unfolding reconfigure
+    outcome =
+        at-known 3 (bookOf book) (endsOf book records) payload (reconfigureAt (endsOf book records) payload) i (entry serves names) long
+          (met serves names .found)
+
+    idle-here : {b : Bool} → isIdle (h .state) ≡ b → isIdle (endAt (endsOf book records) i .state) ≡ b
+    idle-here t = ap isIdle (state-here serves names here) ∙ t
+
+    open-here : {b : Bool} → isOpen (h .state) ≡ b → isOpen (endAt (endsOf book records) i .state) ≡ b
+    open-here t = ap isOpen (state-here serves names here) ∙ t
+
+    pub idle-refused : isIdle (h .state) ≡ true
+      → {said : Said} {reply′ : List ℕ} → Refuses reconfigure book payload records reply 0 0x14 said reply′
+    idle-refused idle =
+        refused reconfigure serves 0 0x14
+          (outcome ∙ anew-idle (endsOf book records) payload i (entry serves names) (idle-here idle))
+
+    module _ (busy : isIdle (h .state) ≡ false) where
+      pub closed-refused : isOpen (h .state) ≡ false
+        → {said : Said} {reply′ : List ℕ} → Refuses reconfigure book payload records reply 0 0x31 said reply′
+      closed-refused closed =
+          refused reconfigure serves 0 0x31
+            (outcome ∙ anew-closed (endsOf book records) payload i (entry serves names) (idle-here busy) (open-here closed))
+
+      module _ (opened : isOpen (h .state) ≡ true) where
+        pub fault-refused : {c code : ℕ} → Finds (Failed c code)
+          → {said : Said} {reply′ : List ℕ} → Refuses reconfigure book payload records reply c code said reply′
+        fault-refused {c} {code} e =
+            refused reconfigure serves c code
+              (outcome
+               ∙ anew-fault (endsOf book records) payload i (entry serves names) (idle-here busy) (open-here opened) c code e)
+
+        pub anew-moves : {m : Marks} {said : Said} {records′ : List ℕ} → Finds (Clean m) → said ≡ saidOf (accept [])
+          → records′
+            ≡ patch (i * recordRoom) (keptOctets h (restored (items (drop 1 payload)) (items (configAt i records)))) records
+          → Does reconfigure book payload records reply said records′ reply
+        anew-moves {m} e accepts wrote =
+            let config = restored (items (drop 1 payload)) (items (configAt i records)) in
+            moved reconfigure serves i h config
+              (outcome
+               ∙ anew-clean (endsOf book records) payload i (entry serves names) (idle-here busy) (open-here opened) m e)
+              (anew-as h (configAt i records) config
+               ∙ sym (ap₂ (λ (l : List ℕ) (x : Endpoint). withConfig (restored (items (drop 1 payload)) (items l)) x) config-here
+                   (end-here serves names here)))
+              (met serves names .placed .counted) (anew-short (renews busy refl e)) accepts wrote

@@ -1,0 +1,3 @@
+pub mod Doings
+pub mod Sets
+pub mod Anew

@@ -1,0 +1,50 @@
+-- What a command does, in the words of the definitions; the endpoint that its payload names; and what is kept of a configuration.
+use Prim.Native.Nat.{ℕ, _+_, _*_, _≤_}
+use mathlib.Core.Path.{_≡_}
+use mathlib.Core.List.{List, _++_}
+use mathlib.Core.Bool.{true}
+use lib.ListN.{length, getD}
+use Rattle.rules.specs.Elements.{items, couldStore}
+use Rattle.rules.specs.Book.{Book, bookOf}
+use Rattle.rules.specs.Walks.{noMarks, walkOf, placeIn}
+use Rattle.rules.specs.Endpoints.{Ends}
+use Rattle.rules.specs.Saved.{recordRoom, endsIn}
+use Rattle.rules.specs.Commands.{Outcome, ourIn}
+use Rattle.rules.specs.Answers.{Did, did}
+use Rattle.rules.specs.declared.Said.{Said}
+use Rattle.rules.specs.declared.Marks.{Marks}
+use Rattle.rules.specs.declared.Rule.the-variants.{Reconfiguring}
+use Rattle.rules.specs.declared.Walked.the-variants.{Clean}
+use Rattle.rules.specs.declared.Place.the-variants.{Known}
+use Rattle.saved.specs.Records.{loaded, headOctets, recordAt, configAt}
+use Rattle.saved.specs.Moved.{reconfiguredHead}
+use Rattle.saved.specs.declared.records.Endpoint.{Endpoint as Head}
+
+-- the endpoints that the records show
+abbrev pub endsOf : List ℕ → List ℕ → Ends
+endsOf book records = endsIn (length (bookOf book)) records
+
+-- what is said and what both areas hold then are what the command's outcome makes of them
+abbrev pub Does : (Book → Ends → List ℕ → Outcome) → List ℕ → List ℕ → List ℕ → List ℕ → Said → List ℕ → List ℕ → Type 0
+Does command book payload records reply said records′ reply′ =
+    _≡_ {A = Did} (record { said = said; records = records′; reply = reply′ })
+      (did (command (bookOf book) (endsOf book records) payload) records reply)
+
+-- the payload begins with the SEID of entry i, whose list is the `size` octets from `from` on
+pub record Names (book payload : List ℕ) (i from size : ℕ) : Type 0 where
+  pub kind : ℕ
+  pub there : placeIn (ourIn (getD payload 0 0)) book ≡ Known i kind from size
+
+-- the octets of a record with this configuration: the head, which tells its length, and the configuration
+unfoldable pub keptOctets : Head → List ℕ → List ℕ
+keptOctets h config = headOctets (reconfiguredHead (length config) h) ++ config
+
+-- an endpoint that can be configured anew: record i has this head and a configuration that the list could store, and the elements
+-- of the payload have no fault
+pub record Renews (caps records payload : List ℕ) (i : ℕ) (h : Head) (m : Marks) : Type 0 where
+  pub inside : (i + 1) * recordRoom ≤ length records
+  pub head : h ≡ loaded (recordAt i records)
+  pub could : couldStore (items caps) (configAt i records) ≡ true
+  pub few : length caps ≤ 64
+  pub short : length payload ≤ 512
+  pub clean : walkOf Reconfiguring (items caps) payload 1 noMarks ≡ Clean m

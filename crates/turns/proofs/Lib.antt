@@ -1,0 +1,5 @@
+pub mod HeadStored
+pub mod StoredOver
+pub mod Answering
+pub mod Leaving
+pub mod Turning
