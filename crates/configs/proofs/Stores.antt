@@ -353,7 +353,7 @@ pub could-setting : (caps : List Item) (l : List ℕ) → couldStore caps l ≡ 
 unfolding settingOf walkedAs
 could-setting caps l e = rw (could-fault caps l e)
 
-walked-clean : (f : Fault) (m : Marks) {k : Marks} → walkedAs f m ≡ Clean k → (f .code ≡ 0) × (m ≡ k)
+pub walked-clean : (f : Fault) (m : Marks) {k : Marks} → walkedAs f m ≡ Clean k → (f .code ≡ 0) × (m ≡ k)
 unfolding walkedAs
 walked-clean f m {k} e = go (told (eqb (f .code) 0))
   where

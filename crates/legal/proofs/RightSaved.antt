@@ -68,7 +68,7 @@ module _ (book : Book) (l : List ℕ) where
     unfolding part
     room-wrong f = sym (two-parts book l ∙ rw (roomy, f))
 
-    pub behind-room : part 520 (length l - 520) l ≡ drop gatheringRoom l
+    behind-room : part 520 (length l - 520) l ≡ drop gatheringRoom l
     unfolding part
     behind-room = take-all (length l - 520) (drop 520 l) (rw length-drop (omega arith))
 

@@ -1,21 +1,20 @@
--- What Reconfigure leads to, by its checks in order, and what is done for it. What is stored is copied and checked again for its
--- marks: a configuration that could be stored passes, and with the new elements it could be stored again.
+-- What Reconfigure leads to, by its checks in order, and what is done for it: the stored configuration is copied and checked for
+-- its marks, which it passes since it could be stored, and with the new elements in place it could be stored again.
 use Prim.Native.Nat.{ℕ, _+_, _*_, _≤_}
 use mathlib.Core.Path.{_≡_, refl, sym, ap, ap₂, _∙_, subst}
-use mathlib.Core.List.{List, [], _∷_}
-use mathlib.Core.Bool.{Bool, true, false}
+use mathlib.Core.List.{List, []}
+use mathlib.Core.Bool.{true, false}
 use native.Mathlib.Nat.{le-trans}
 use native.Mathlib.Omega.{arith}
 use lib.ListN.{length, take, drop, getD, length-take, length-drop}
 use lib.Seq.{length-take-le, take-add, take-take, drop-at, drop-drop}
 use borrow.Author.Tests.{eqb-true}
-use Rattle.rules.specs.Octets.{front}
 use Rattle.rules.specs.Elements.{items, reconfiguring, faultIn, firstFault, restored, couldStore}
 use Rattle.rules.specs.Book.{Entry, bookOf}
 use Rattle.rules.specs.Walks.{noMarks, marksFrom, judge, walkOf, settingOf}
 use Rattle.rules.specs.Endpoints.{Endpoint, Ends, isIdle, withConfig, endAt}
 use Rattle.rules.specs.Saved.{recordRoom}
-use Rattle.rules.specs.Commands.{accept, reject, stays, moves, rejectElement, isOpen, reconfigureAt, reconfigure}
+use Rattle.rules.specs.Commands.{accept, stays, moves, rejectElement, isOpen, reconfigureAt, reconfigure}
 use Rattle.rules.specs.Answers.{saidOf}
 use Rattle.rules.specs.declared.Said.{Said}
 use Rattle.rules.specs.declared.Marks.{Marks}
@@ -26,7 +25,7 @@ use Rattle.rules.proofs.LegalMoves.{busy-keeps, keeps-config}
 use Rattle.rules.proofs.Storable.{restored-could, could-short}
 use Rattle.octets.specs.Patch.{patch, part}
 use Rattle.octets.proofs.Patches.{part-patch}
-use Rattle.lists.proofs.Judging.{walk-begun}
+use Rattle.lists.proofs.Judging.{walk-begun, walk-clean}
 use Rattle.configs.specs.Stores.{markedStore, MarksFit}
 use Rattle.configs.proofs.Stores.{Stores, could-setting, again-stores}
 use Rattle.saved.specs.Records.{loaded, endpointOf, recordAt, configAt}
@@ -34,7 +33,8 @@ use Rattle.saved.specs.Moved.{reconfiguredHead}
 use Rattle.saved.specs.Serves.{Serves}
 use Rattle.saved.specs.declared.records.Endpoint.{Endpoint as Head}
 use Rattle.sets.specs.Does.{endsOf, Does, Names, Renews, keptOctets}
-use Rattle.sets.proofs.Doings.{at-known, walked-failed, walked-clean, Refuses, refused, moved, entry, met, few, end-here, state-here}
+use Rattle.sets.proofs.Doings.{answered, fault-answered, Refuses, refused, moved, entry, met, few, there}
+use Rattle.sets.proofs.Doings.{end-here, state-here}
 
 -- ---- The configuration of a record
 
@@ -83,13 +83,10 @@ module _ {caps records payload : List ℕ} {i : ℕ} {h : Head} {m : Marks} (r :
       ap (λ (n : ℕ). take n (drop 8 (recordAt i records))) (sym size-told)
       ∙ config-part i (h .length) records (r .inside) size-short
 
-  -- what no fault comes to, with no category seen before
+  -- no fault, with no category seen before
   fine : faultIn reconfiguring (items caps) [] (items (drop 1 payload)) .code ≡ 0
   unfolding faultIn judge
-  fine =
-      eqb-true _ 0
-        (walked-clean (firstFault (judge Reconfiguring (items caps)) [] (items (drop 1 payload))) (marksFrom payload 1 noMarks) m
-          (sym (walk-begun Reconfiguring (items caps) payload 1) ∙ r .clean))
+  fine = eqb-true _ 0 (walk-clean Reconfiguring (items caps) payload 1 m (sym (r .clean)) .0)
 
   pub anew-short : length anew ≤ 64
   anew-short =
@@ -108,7 +105,8 @@ module _ {caps records payload : List ℕ} {i : ℕ} {h : Head} {m : Marks} (r :
     pub copy-fits : 0 + length p ≤ 64
     copy-fits = omega (arith, part-size, size-short)
 
-    pub copied : (zeros : List ℕ) {copy : List ℕ} → length zeros ≡ 64 → copy ≡ patch 0 p zeros → take (h .length) copy ≡ configAt i records
+    pub copied : (zeros : List ℕ) {copy : List ℕ} → length zeros ≡ 64 → copy ≡ patch 0 p zeros
+      → take (h .length) copy ≡ configAt i records
     unfolding part
     copied zeros n e =
         ap₂ take (sym part-size) e ∙ part-patch 0 p zeros (omega (arith, copy-fits)) ∙ q ∙ sym config-same
@@ -155,24 +153,15 @@ module _ (ends : Ends) (p : List ℕ) (i : ℕ) (n : Entry) where
     unfolding reconfigureAt
     anew-closed closed = rw (busy, closed)
 
-    module _ (opened : isOpen (endAt ends i .state) ≡ true) where
-      anew-fault : (c code : ℕ) → walkOf Reconfiguring (items (n .caps)) p 1 noMarks ≡ Failed c code
-        → reconfigureAt ends p i n ≡ stays ends (rejectElement c code)
-      unfolding reconfigureAt faultIn judge
-      anew-fault c code e =
-          let f =
-                walked-failed (firstFault (judge Reconfiguring (items (n .caps))) [] (items (drop 1 p))) (marksFrom p 1 noMarks) c code
-                  (sym (walk-begun Reconfiguring (items (n .caps)) p 1) ∙ e) in
-          rw (busy, opened, f .0, f .1, f .2)
-
-      anew-clean : (m : Marks) → walkOf Reconfiguring (items (n .caps)) p 1 noMarks ≡ Clean m
-        → reconfigureAt ends p i n
-          ≡ moves ends i (withConfig (restored (items (drop 1 p)) (items (endAt ends i .config))) (endAt ends i))
-      unfolding reconfigureAt faultIn judge
-      anew-clean m e =
-          rw (busy, opened,
-            walked-clean (firstFault (judge Reconfiguring (items (n .caps))) [] (items (drop 1 p))) (marksFrom p 1 noMarks) m
-              (sym (walk-begun Reconfiguring (items (n .caps)) p 1) ∙ e))
+    anew-checked : {w : Walked} → isOpen (endAt ends i .state) ≡ true → walkOf Reconfiguring (items (n .caps)) p 1 noMarks ≡ w
+      → reconfigureAt ends p i n
+        ≡ answered ends
+            (moves ends i (withConfig (restored (items (drop 1 p)) (items (endAt ends i .config))) (endAt ends i))) w
+    unfolding reconfigureAt faultIn judge
+    anew-checked opened e =
+        rw (busy, opened)
+          (fault-answered (firstFault (judge Reconfiguring (items (n .caps))) [] (items (drop 1 p))) (marksFrom p 1 noMarks)
+            ends _ (sym (walk-begun Reconfiguring (items (n .caps)) p 1) ∙ e))
 
 -- the endpoint that is configured anew
 anew-as : (h : Head) (old config : List ℕ)
@@ -196,62 +185,64 @@ module _ {book payload records reply : List ℕ} {i from size : ℕ} (serves : S
     → Renews caps records payload i h m
   renews {caps} {m} busy same e =
       let it = endAt (endsOf book records) i in
-      let kept : couldStore (items (take size (drop from book))) (it .config) ≡ true =
-            keeps-config (entry serves names) it
-              (busy-keeps (entry serves names) it (met serves names .lawful) (ap isIdle (state-here serves names here) ∙ busy)) in
+      let settings = busy-keeps (entry serves names) it (met serves names .lawful) (state-here serves names here isIdle busy) in
+      let offers = take size (drop from book) in
       subst (λ (l : List ℕ). Renews l records payload i h m) (sym same)
         (record {
           inside = met serves names .inside;
           head = here;
-          could = subst (λ (l : List ℕ). couldStore (items (take size (drop from book))) l ≡ true) config-here kept;
+          could =
+            subst (λ (l : List ℕ). couldStore (items offers) l ≡ true) config-here
+              (keeps-config (entry serves names) it settings);
           few = few serves names;
-          short = serves .short;
           clean = e
         })
 
   module _ (long : 3 ≤ length payload) where
-    outcome : reconfigure (bookOf book) (endsOf book records) payload ≡ reconfigureAt (endsOf book records) payload i (entry serves names)
+    outcome : reconfigure (bookOf book) (endsOf book records) payload
+      ≡ reconfigureAt (endsOf book records) payload i (entry serves names)
     unfolding reconfigure
-    outcome =
-        at-known 3 (bookOf book) (endsOf book records) payload (reconfigureAt (endsOf book records) payload) i (entry serves names) long
-          (met serves names .found)
-
-    idle-here : {b : Bool} → isIdle (h .state) ≡ b → isIdle (endAt (endsOf book records) i .state) ≡ b
-    idle-here t = ap isIdle (state-here serves names here) ∙ t
-
-    open-here : {b : Bool} → isOpen (h .state) ≡ b → isOpen (endAt (endsOf book records) i .state) ≡ b
-    open-here t = ap isOpen (state-here serves names here) ∙ t
+    outcome = there serves names 3 reconfigureAt long
 
     pub idle-refused : isIdle (h .state) ≡ true
       → {said : Said} {reply′ : List ℕ} → Refuses reconfigure book payload records reply 0 0x14 said reply′
     idle-refused idle =
         refused reconfigure serves 0 0x14
-          (outcome ∙ anew-idle (endsOf book records) payload i (entry serves names) (idle-here idle))
+          (outcome ∙ anew-idle (endsOf book records) payload i (entry serves names) (state-here serves names here isIdle idle))
 
     module _ (busy : isIdle (h .state) ≡ false) where
       pub closed-refused : isOpen (h .state) ≡ false
         → {said : Said} {reply′ : List ℕ} → Refuses reconfigure book payload records reply 0 0x31 said reply′
       closed-refused closed =
           refused reconfigure serves 0 0x31
-            (outcome ∙ anew-closed (endsOf book records) payload i (entry serves names) (idle-here busy) (open-here closed))
+            (outcome
+             ∙ anew-closed (endsOf book records) payload i (entry serves names) (state-here serves names here isIdle busy)
+                 (state-here serves names here isOpen closed))
 
       module _ (opened : isOpen (h .state) ≡ true) where
+        checked : {w : Walked} → Finds w
+          → reconfigure (bookOf book) (endsOf book records) payload
+            ≡ answered (endsOf book records)
+                (moves (endsOf book records) i
+                  (withConfig (restored (items (drop 1 payload)) (items (endAt (endsOf book records) i .config)))
+                    (endAt (endsOf book records) i)))
+                w
+        checked e =
+            outcome
+            ∙ anew-checked (endsOf book records) payload i (entry serves names) (state-here serves names here isIdle busy)
+                (state-here serves names here isOpen opened) e
+
         pub fault-refused : {c code : ℕ} → Finds (Failed c code)
           → {said : Said} {reply′ : List ℕ} → Refuses reconfigure book payload records reply c code said reply′
-        fault-refused {c} {code} e =
-            refused reconfigure serves c code
-              (outcome
-               ∙ anew-fault (endsOf book records) payload i (entry serves names) (idle-here busy) (open-here opened) c code e)
+        fault-refused {c} {code} e = refused reconfigure serves c code (checked e)
 
         pub anew-moves : {m : Marks} {said : Said} {records′ : List ℕ} → Finds (Clean m) → said ≡ saidOf (accept [])
           → records′
             ≡ patch (i * recordRoom) (keptOctets h (restored (items (drop 1 payload)) (items (configAt i records)))) records
           → Does reconfigure book payload records reply said records′ reply
-        anew-moves {m} e accepts wrote =
+        anew-moves e accepts wrote =
             let config = restored (items (drop 1 payload)) (items (configAt i records)) in
-            moved reconfigure serves i h config
-              (outcome
-               ∙ anew-clean (endsOf book records) payload i (entry serves names) (idle-here busy) (open-here opened) m e)
+            moved reconfigure serves i h config (checked e)
               (anew-as h (configAt i records) config
                ∙ sym (ap₂ (λ (l : List ℕ) (x : Endpoint). withConfig (restored (items (drop 1 payload)) (items l)) x) config-here
                    (end-here serves names here)))

@@ -1,14 +1,14 @@
--- What both commands begin and end with: a payload that is too short or names no endpoint, a reject that leaves every octet of the
--- records, and a configuration written with its head, which are two writes of which the second stands right before the first.
+-- What both commands begin and end with: a payload that is too short or names no endpoint, a reject that leaves every octet of
+-- the records, and a configuration written with its head, which are two writes of which the second stands right before the first.
 use Prim.Native.Nat.{ℕ, _+_, _*_, _≤_, _<_}
 use native.Mathlib.Omega.{arith}
 use mathlib.Core.Path.{_≡_, refl, sym, ap, _∙_}
-use mathlib.Core.List.{List, [], _∷_, _++_}
-use mathlib.Core.Bool.{true, false}
+use mathlib.Core.List.{List, [], _∷_}
+use mathlib.Core.Bool.{Bool, not}
 use lib.ListN.{length, take, drop, getD}
 use lib.Dec.{leb, eqb}
-use borrow.Author.Tests.{le-leb, lt-leb, eqb-true}
-use Rattle.rules.specs.Octets.{front}
+use borrow.Author.Tests.{le-leb, lt-leb}
+use Rattle.rules.specs.Octets.{if_then_else_, front}
 use Rattle.rules.specs.Elements.{Fault}
 use Rattle.rules.specs.Book.{Entry, Book, bookOf, unknown, known, find}
 use Rattle.rules.specs.Walks.{walkedAs, placeIn}
@@ -19,6 +19,8 @@ use Rattle.rules.specs.Host.{payloadOf}
 use Rattle.rules.specs.Answers.{saidOf, did}
 use Rattle.rules.specs.declared.Said.{Said}
 use Rattle.rules.specs.declared.Marks.{Marks}
+use Rattle.rules.specs.declared.State.{State}
+use Rattle.rules.specs.declared.Walked.{Walked}
 use Rattle.rules.specs.declared.Walked.the-variants.{Fault as Failed, Clean}
 use Rattle.rules.specs.declared.Place.the-variants.{Unknown}
 use Rattle.rules.proofs.Tests.{Told?, told, passed, failed}
@@ -29,55 +31,48 @@ use Rattle.configs.proofs.Writes.{patch-append}
 use Rattle.book.proofs.Found.{entryBy}
 use Rattle.saved.specs.Records.{loaded, endpointOf, headOctets, recordAt, configAt}
 use Rattle.saved.specs.Moved.{reconfiguredHead}
-use Rattle.saved.specs.Held.{Held}
 use Rattle.saved.specs.Serves.{Serves}
 use Rattle.saved.specs.declared.records.Endpoint.{Endpoint as Head}
 use Rattle.saved.proofs.OneStore.{stored-one}
 use Rattle.replies.proofs.Serving.{did-stay, did-move, Meets, meets, misses}
 use Rattle.sets.specs.Does.{endsOf, Does, Names, keptOctets}
 
--- ---- The checks that both begin with
+-- ---- The checks that both begin with, and the one of the elements
 
-module _ (least : ℕ) (book : Book) (ends : Ends) (p : List ℕ) (on : ℕ → Entry → Outcome) where
-  pub at-short : length p < least
-    → atEndpoint (rejectElement 0) (leb least (length p)) book ends p on ≡ stays ends (rejectElement 0 0x11)
+-- a command whose payload has at least so many octets and names an endpoint in the first
+abbrev pub commandAt : ℕ → (Ends → List ℕ → ℕ → Entry → Outcome) → Book → Ends → List ℕ → Outcome
+commandAt least on book ends p = atEndpoint (rejectElement 0) (leb least (length p)) book ends p (on ends p)
+
+module _ (least : ℕ) (on : Ends → List ℕ → ℕ → Entry → Outcome) (book : Book) (ends : Ends) (p : List ℕ) where
+  at-short : length p < least → commandAt least on book ends p ≡ stays ends (rejectElement 0 0x11)
   unfolding atEndpoint
   at-short h = rw (lt-leb least (length p) h)
 
-  pub at-unknown : least ≤ length p → find (ourIn (getD p 0 0)) book ≡ unknown
-    → atEndpoint (rejectElement 0) (leb least (length p)) book ends p on ≡ stays ends (rejectElement 0 0x12)
+  at-unknown : least ≤ length p → find (ourIn (getD p 0 0)) book ≡ unknown
+    → commandAt least on book ends p ≡ stays ends (rejectElement 0 0x12)
   unfolding atEndpoint foundOr
   at-unknown h f = rw (le-leb least (length p) h, f)
 
-  pub at-known : (i : ℕ) (n : Entry) → least ≤ length p → find (ourIn (getD p 0 0)) book ≡ known i n
-    → atEndpoint (rejectElement 0) (leb least (length p)) book ends p on ≡ on i n
+  at-known : (i : ℕ) (n : Entry) → least ≤ length p → find (ourIn (getD p 0 0)) book ≡ known i n
+    → commandAt least on book ends p ≡ on ends p i n
   unfolding atEndpoint foundOr
   at-known i n h f = rw (le-leb least (length p) h, f)
 
--- ---- What the check of the elements tells
+-- what is answered by what the check of the elements finds: its fault, or where there is none the outcome o
+abbrev pub answered : Ends → Outcome → Walked → Outcome
+answered ends o (Failed c code) = stays ends (rejectElement c code)
+answered ends o (Clean m) = o
 
-pub walked-failed : (f : Fault) (m : Marks) (c code : ℕ) → walkedAs f m ≡ Failed c code
-  → (eqb (f .code) 0 ≡ false) × (f .category ≡ c) × (f .code ≡ code)
+pub fault-answered : (f : Fault) (m : Marks) (ends : Ends) (o : Outcome) {w : Walked} → walkedAs f m ≡ w
+  → (if not (eqb (f .code) 0) then stays ends (rejectElement (f .category) (f .code)) else o) ≡ answered ends o w
 unfolding walkedAs
-walked-failed f m c code e = go (told (eqb (f .code) 0))
+fault-answered f m ends o e = go (told (eqb (f .code) 0)) ∙ ap (answered ends o) e
   where
-    go : Told? (eqb (f .code) 0) → (eqb (f .code) 0 ≡ false) × (f .category ≡ c) × (f .code ≡ code)
-    go (passed z) =
-        let p : Clean m ≡ Failed c code = rw z at e in
-        let q : _≡_ {A = ℕ} 0 1 = cc in
-        absurd (omega arith)
-    go (failed z) = let p : Failed (f .category) (f .code) ≡ Failed c code = rw z at e in (z, cc, cc)
-
-pub walked-clean : (f : Fault) (m k : Marks) → walkedAs f m ≡ Clean k → eqb (f .code) 0 ≡ true
-unfolding walkedAs
-walked-clean f m k e = go (told (eqb (f .code) 0))
-  where
-    go : Told? (eqb (f .code) 0) → eqb (f .code) 0 ≡ true
-    go (passed z) = z
-    go (failed z) =
-        let p : Failed (f .category) (f .code) ≡ Clean k = rw z at e in
-        let q : _≡_ {A = ℕ} 0 1 = cc in
-        absurd (omega arith)
+    go : Told? (eqb (f .code) 0)
+        → (if not (eqb (f .code) 0) then stays ends (rejectElement (f .category) (f .code)) else o)
+          ≡ answered ends o (walkedAs f m)
+    go (passed z) = rw z
+    go (failed z) = rw z
 
 -- ---- What is done
 
@@ -87,8 +82,8 @@ Refuses command book payload records reply c code said reply′ =
     (said ≡ saidOf (reject (c ∷ code ∷ []))) × (reply′ ≡ front (c ∷ code ∷ []) reply)
     → Does command book payload records reply said records reply′
 
-module _ {book payload records reply : List ℕ} (command : Book → Ends → List ℕ → Outcome) (serves : Serves book records payload reply)
-  where
+module _ (command : Book → Ends → List ℕ → Outcome) {book payload records reply : List ℕ}
+    (serves : Serves book records payload reply) where
   pub refused : (c code : ℕ) {said : Said} {reply′ : List ℕ}
     → command (bookOf book) (endsOf book records) payload ≡ stays (endsOf book records) (rejectElement c code)
     → Refuses command book payload records reply c code said reply′
@@ -114,26 +109,6 @@ module _ {book payload records reply : List ℕ} (command : Book → Ends → Li
       ∙ sym (did-move n i records reply (endpointOf (reconfiguredHead (length config) h) config))
       ∙ sym (ap (λ o. did o records reply) (outcome ∙ ap (moves (endsOf book records) i) (sym same)))
 
--- ---- The checks that both begin with, as the code makes them
-
-abbrev commandAt : ℕ → (Ends → List ℕ → ℕ → Entry → Outcome) → Book → Ends → List ℕ → Outcome
-commandAt least on book ends p = atEndpoint (rejectElement 0) (leb least (length p)) book ends p (on ends p)
-
-module _ (least : ℕ) (on : Ends → List ℕ → ℕ → Entry → Outcome) {book payload records reply : List ℕ}
-    (serves : Serves book records payload reply) where
-  pub short-refused : length payload < least
-    → {said : Said} {reply′ : List ℕ} → Refuses (commandAt least on) book payload records reply 0 0x11 said reply′
-  short-refused short =
-      refused (commandAt least on) serves 0 0x11
-        (at-short least (bookOf book) (endsOf book records) payload (on (endsOf book records) payload) short)
-
-  pub unknown-refused : least ≤ length payload → placeIn (ourIn (getD payload 0 0)) book ≡ Unknown
-    → {said : Said} {reply′ : List ℕ} → Refuses (commandAt least on) book payload records reply 0 0x12 said reply′
-  unknown-refused long e =
-      refused (commandAt least on) serves 0 0x12
-        (at-unknown least (bookOf book) (endsOf book records) payload (on (endsOf book records) payload) long
-          (misses (ourIn (getD payload 0 0)) book e))
-
 -- ---- The configuration, and then the head before it
 
 pub kept-by : (i : ℕ) (h h′ : Head) (config l b b′ : List ℕ) (n : ℕ) → (i + 1) * recordRoom ≤ length l → length config ≤ 64
@@ -149,6 +124,21 @@ kept-by i h h′ config l b b′ n inside short wrote same set =
     ∙ sym (patch-comm (i * recordRoom) octets (i * 80 + 8) config l (omega arith) (omega arith))
     ∙ patch-append (i * recordRoom) octets config l (omega arith)
 
+-- ---- A payload that is too short, or names no endpoint
+
+module _ (least : ℕ) (on : Ends → List ℕ → ℕ → Entry → Outcome) {book payload records reply : List ℕ}
+    (serves : Serves book records payload reply) where
+  pub short-refused : length payload < least
+    → {said : Said} {reply′ : List ℕ} → Refuses (commandAt least on) book payload records reply 0 0x11 said reply′
+  short-refused short =
+      refused (commandAt least on) serves 0 0x11 (at-short least on (bookOf book) (endsOf book records) payload short)
+
+  pub unknown-refused : least ≤ length payload → placeIn (ourIn (getD payload 0 0)) book ≡ Unknown
+    → {said : Said} {reply′ : List ℕ} → Refuses (commandAt least on) book payload records reply 0 0x12 said reply′
+  unknown-refused long e =
+      refused (commandAt least on) serves 0 0x12
+        (at-unknown least on (bookOf book) (endsOf book records) payload long (misses (ourIn (getD payload 0 0)) book e))
+
 -- ---- The endpoint that the payload names
 
 module _ {book payload records reply : List ℕ} {i from size : ℕ} (serves : Serves book records payload reply)
@@ -162,10 +152,16 @@ module _ {book payload records reply : List ℕ} {i from size : ℕ} (serves : S
   pub few : length (take size (drop from book)) ≤ 64
   few = caps-short entry (met .placed .right)
 
+  -- what a command with a payload that is long enough comes to
+  pub there : (least : ℕ) (on : Ends → List ℕ → ℕ → Entry → Outcome) → least ≤ length payload
+    → commandAt least on (bookOf book) (endsOf book records) payload ≡ on (endsOf book records) payload i entry
+  there least on long = at-known least on (bookOf book) (endsOf book records) payload i entry long (met .found)
+
   module _ {h : Head} (here : h ≡ loaded (recordAt i records)) where
     pub end-here : endAt (endsOf book records) i ≡ endpointOf h (configAt i records)
     end-here = met .shows ∙ ap (λ (x : Head). endpointOf x (configAt i records)) (sym here)
 
-    pub state-here : endAt (endsOf book records) i .state ≡ h .state
+    -- a test of its state
+    pub state-here : (is : State → Bool) {b : Bool} → is (h .state) ≡ b → is (endAt (endsOf book records) i .state) ≡ b
     unfolding endpointOf
-    state-here = ap (λ (e : Endpoint). e .state) end-here
+    state-here is t = ap (λ (e : Endpoint). is (e .state)) end-here ∙ t

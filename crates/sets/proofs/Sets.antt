@@ -1,18 +1,16 @@
 -- What Set Configuration leads to, by its checks in order, and what is done for it.
 use Prim.Native.Nat.{ℕ, _+_, _*_, _≤_}
 use mathlib.Core.Path.{_≡_, refl, sym, ap, ap₂, _∙_, subst}
-use mathlib.Core.List.{List, [], _∷_}
-use mathlib.Core.Bool.{Bool, true, false}
+use mathlib.Core.List.{List, []}
+use mathlib.Core.Bool.{true, false}
 use native.Mathlib.Nat.{le-trans}
 use lib.ListN.{length, take, drop, getD}
-use borrow.Author.Tests.{eqb-true}
-use Rattle.rules.specs.Octets.{front}
 use Rattle.rules.specs.Elements.{items, settingFault, stored}
 use Rattle.rules.specs.Book.{Entry, bookOf}
 use Rattle.rules.specs.Walks.{noMarks, marksFrom, settingOf}
 use Rattle.rules.specs.Endpoints.{Endpoint, Ends, isIdle, farRight, endAt}
 use Rattle.rules.specs.Saved.{recordRoom}
-use Rattle.rules.specs.Commands.{accept, reject, stays, moves, rejectElement, ourIn, farIn, settled, setAt, setConfiguration}
+use Rattle.rules.specs.Commands.{accept, stays, moves, rejectElement, farIn, settled, setAt, setConfiguration}
 use Rattle.rules.specs.Answers.{saidOf}
 use Rattle.rules.specs.declared.Said.{Said}
 use Rattle.rules.specs.declared.FarSeid.{FarSeid}
@@ -20,18 +18,16 @@ use Rattle.rules.specs.declared.Marks.{Marks}
 use Rattle.rules.specs.declared.Walked.{Walked}
 use Rattle.rules.specs.declared.Walked.the-variants.{Fault as Failed, Clean}
 use Rattle.rules.proofs.Storable.{stored-could, could-short}
-use Rattle.rules.proofs.ShortReplies.{caps-short}
 use Rattle.octets.specs.Patch.{patch}
 use Rattle.configs.specs.Stores.{markedStore, MarksFit}
-use Rattle.configs.proofs.Stores.{set-stores}
-use Rattle.book.proofs.Found.{entryBy}
+use Rattle.configs.proofs.Stores.{walked-clean, set-stores}
 use Rattle.saved.specs.Records.{loaded, endpointOf, recordAt, configAt}
 use Rattle.saved.specs.Moved.{settledHead, reconfiguredHead}
 use Rattle.saved.specs.Serves.{Serves}
 use Rattle.saved.specs.declared.records.Endpoint.{Endpoint as Head}
-use Rattle.replies.proofs.Serving.{Meets, meets}
 use Rattle.sets.specs.Does.{endsOf, Does, Names, keptOctets}
-use Rattle.sets.proofs.Doings.{at-known, walked-failed, walked-clean, Refuses, refused, moved, entry, met, few, end-here, state-here}
+use Rattle.sets.proofs.Doings.{answered, fault-answered, Refuses, refused, moved, entry, met, few, there}
+use Rattle.sets.proofs.Doings.{end-here, state-here}
 
 -- ---- By the checks in order
 
@@ -45,26 +41,19 @@ module _ (ends : Ends) (p : List ℕ) (i : ℕ) (n : Entry) where
     unfolding setAt
     set-far wrong = rw (free, wrong)
 
-    module _ (right : farRight (farIn (getD p 1 0)) ≡ true) where
-      set-fault : (c code : ℕ) → settingOf (items (n .caps)) p 2 ≡ Failed c code → setAt ends p i n ≡ stays ends (rejectElement c code)
-      unfolding setAt settingOf
-      set-fault c code e =
-          let f = walked-failed (settingFault (items (n .caps)) (items (drop 2 p))) (marksFrom p 2 noMarks) c code e in
-          rw (free, right, f .0, f .1, f .2)
-
-      set-clean : (m : Marks) → settingOf (items (n .caps)) p 2 ≡ Clean m
-        → setAt ends p i n ≡ moves ends i (settled (endAt ends i) (farIn (getD p 1 0)) (stored (items (drop 2 p))))
-      unfolding setAt settingOf
-      set-clean m e =
-          rw (free, right, walked-clean (settingFault (items (n .caps)) (items (drop 2 p))) (marksFrom p 2 noMarks) m e)
+    set-checked : {w : Walked} → farRight (farIn (getD p 1 0)) ≡ true → settingOf (items (n .caps)) p 2 ≡ w
+      → setAt ends p i n
+        ≡ answered ends (moves ends i (settled (endAt ends i) (farIn (getD p 1 0)) (stored (items (drop 2 p))))) w
+    unfolding setAt settingOf
+    set-checked right e =
+        rw (free, right) (fault-answered (settingFault (items (n .caps)) (items (drop 2 p))) (marksFrom p 2 noMarks) ends _ e)
 
 -- what is stored is no longer than the list that offers it
-stored-short : (l p : List ℕ) (m : Marks) → settingOf (items l) p 2 ≡ Clean m → length (stored (items (drop 2 p))) ≤ length l
+stored-short : (l p : List ℕ) {m : Marks} → settingOf (items l) p 2 ≡ Clean m → length (stored (items (drop 2 p))) ≤ length l
 unfolding settingOf
-stored-short l p m e =
-    could-short l (stored (items (drop 2 p)))
-      (stored-could (items l) (items (drop 2 p))
-        (eqb-true _ 0 (walked-clean (settingFault (items l) (items (drop 2 p))) (marksFrom p 2 noMarks) m e)))
+stored-short l p e =
+    let clean = walked-clean (settingFault (items l) (items (drop 2 p))) (marksFrom p 2 noMarks) e .0 in
+    could-short l (stored (items (drop 2 p))) (stored-could (items l) (items (drop 2 p)) clean)
 
 -- the endpoint that is settled
 settled-as : (h : Head) (old config : List ℕ) (far : FarSeid)
@@ -81,7 +70,7 @@ module _ {book payload records reply : List ℕ} {i from size : ℕ} (serves : S
   Finds w = settingOf (items (take size (drop from book))) payload 2 ≡ w
 
   config-short : {m : Marks} → Finds (Clean m) → length (stored (items (drop 2 payload))) ≤ 64
-  config-short {m} e = le-trans (stored-short (take size (drop from book)) payload m e) (few serves names)
+  config-short e = le-trans (stored-short (take size (drop from book)) payload e) (few serves names)
 
   store-same : {m k : Marks} → Finds (Clean m) → k ≡ noMarks → markedStore payload m payload k ≡ stored (items (drop 2 payload))
   store-same {m} e none =
@@ -99,44 +88,48 @@ module _ {book payload records reply : List ℕ} {i from size : ℕ} (serves : S
         subst (λ (l : List ℕ). length l ≤ 64) (sym (store-same e none)) (config-short e))
 
   module _ (long : 2 ≤ length payload) {h : Head} (here : h ≡ loaded (recordAt i records)) where
-    outcome : setConfiguration (bookOf book) (endsOf book records) payload ≡ setAt (endsOf book records) payload i (entry serves names)
+    outcome : setConfiguration (bookOf book) (endsOf book records) payload
+      ≡ setAt (endsOf book records) payload i (entry serves names)
     unfolding setConfiguration
-    outcome =
-        at-known 2 (bookOf book) (endsOf book records) payload (setAt (endsOf book records) payload) i (entry serves names) long
-          (met serves names .found)
-
-    idle-here : {b : Bool} → isIdle (h .state) ≡ b → isIdle (endAt (endsOf book records) i .state) ≡ b
-    idle-here t = ap isIdle (state-here serves names here) ∙ t
+    outcome = there serves names 2 setAt long
 
     pub busy-refused : isIdle (h .state) ≡ false
       → {said : Said} {reply′ : List ℕ} → Refuses setConfiguration book payload records reply 0 0x13 said reply′
     busy-refused busy =
         refused setConfiguration serves 0 0x13
-          (outcome ∙ set-busy (endsOf book records) payload i (entry serves names) (idle-here busy))
+          (outcome ∙ set-busy (endsOf book records) payload i (entry serves names) (state-here serves names here isIdle busy))
 
     module _ (free : isIdle (h .state) ≡ true) where
       pub far-refused : farRight (farIn (getD payload 1 0)) ≡ false
         → {said : Said} {reply′ : List ℕ} → Refuses setConfiguration book payload records reply 0 0x18 said reply′
       far-refused wrong =
           refused setConfiguration serves 0 0x18
-            (outcome ∙ set-far (endsOf book records) payload i (entry serves names) (idle-here free) wrong)
+            (outcome
+             ∙ set-far (endsOf book records) payload i (entry serves names) (state-here serves names here isIdle free) wrong)
 
       module _ (right : farRight (farIn (getD payload 1 0)) ≡ true) where
+        checked : {w : Walked} → Finds w
+          → setConfiguration (bookOf book) (endsOf book records) payload
+            ≡ answered (endsOf book records)
+                (moves (endsOf book records) i
+                  (settled (endAt (endsOf book records) i) (farIn (getD payload 1 0)) (stored (items (drop 2 payload)))))
+                w
+        checked e =
+            outcome
+            ∙ set-checked (endsOf book records) payload i (entry serves names) (state-here serves names here isIdle free) right e
+
         pub fault-refused : {c code : ℕ} → Finds (Failed c code)
           → {said : Said} {reply′ : List ℕ} → Refuses setConfiguration book payload records reply c code said reply′
-        fault-refused {c} {code} e =
-            refused setConfiguration serves c code
-              (outcome ∙ set-fault (endsOf book records) payload i (entry serves names) (idle-here free) right c code e)
+        fault-refused {c} {code} e = refused setConfiguration serves c code (checked e)
 
         pub set-moves : {m k : Marks} {h′ : Head} {said : Said} {records′ : List ℕ}
           → Finds (Clean m) → k ≡ noMarks → h′ ≡ settledHead (farIn (getD payload 1 0)) 0 h → said ≡ saidOf (accept [])
           → records′ ≡ patch (i * recordRoom) (keptOctets h′ (markedStore payload m payload k)) records
           → Does setConfiguration book payload records reply said records′ reply
-        set-moves {m} e none same accepts wrote =
+        set-moves e none same accepts wrote =
             let far = farIn (getD payload 1 0) in
             let config = stored (items (drop 2 payload)) in
-            moved setConfiguration serves i (settledHead far 0 h) config
-              (outcome ∙ set-clean (endsOf book records) payload i (entry serves names) (idle-here free) right m e)
+            moved setConfiguration serves i (settledHead far 0 h) config (checked e)
               (settled-as h (configAt i records) config far
                ∙ ap (λ (x : Endpoint). settled x far config) (sym (end-here serves names here)))
               (met serves names .placed .counted) (config-short e) accepts

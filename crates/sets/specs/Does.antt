@@ -46,5 +46,4 @@ pub record Renews (caps records payload : List ℕ) (i : ℕ) (h : Head) (m : Ma
   pub head : h ≡ loaded (recordAt i records)
   pub could : couldStore (items caps) (configAt i records) ≡ true
   pub few : length caps ≤ 64
-  pub short : length payload ≤ 512
   pub clean : walkOf Reconfiguring (items caps) payload 1 noMarks ≡ Clean m

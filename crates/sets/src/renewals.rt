@@ -48,7 +48,7 @@ fn renew(caps: &[u8], records: &mut [u8], payload: &[u8], index: usize, head: En
 }
 
 // The endpoint is known: it is entry `index` of the book, whose list is the `size` octets from `from` on.
-fn reconfigure_at(book: &[u8], records: &mut [u8], payload: &[u8], reply: &mut [u8], index: usize, from: usize, size: usize) -> Said
+fn renew_at(book: &[u8], records: &mut [u8], payload: &[u8], reply: &mut [u8], index: usize, from: usize, size: usize) -> Said
     requires { ⌜ Serves (now book) (now records) (now payload) (now reply) × (3 ≤ length (now payload))
       × Names (now book) (now payload) index from size ⌝ }
     ensures { λ r. ⌜ Does reconfiguring (now (book .entry)) (now (payload .entry)) (now (records .entry)) (now (reply .entry))
@@ -89,6 +89,6 @@ pub fn reconfigure(book: &[u8], records: &mut [u8], payload: &[u8], reply: &mut 
             kind: _,
             from,
             size,
-        } => reconfigure_at(book, records, payload, reply, index, from, size),
+        } => renew_at(book, records, payload, reply, index, from, size),
     }
 }

@@ -1,5 +1,5 @@
 -- `far_right` meets its contract: its two tests are those of the definition.
-use Prim.Native.Nat.{ℕ, _≤_, _<_}
+use Prim.Native.Nat.{_≤_, _<_}
 use mathlib.Core.Path.{_≡_}
 use mathlib.Core.Bool.{false}
 use lib.Dec.{leb}

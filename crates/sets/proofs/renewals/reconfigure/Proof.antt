@@ -1,4 +1,4 @@
--- `reconfigure` meets its contract: a payload that is too short or names no endpoint is rejected, else `reconfigure_at` answers.
+-- `reconfigure` meets its contract: a payload that is too short or names no endpoint is rejected, else `renew_at` answers.
 use mathlib.Core.Path.{sym, _∙_}
 use borrow.Author.Needs.{needs}
 use Rattle.rules.specs.Commands.{ourIn, reconfigureAt, reconfigure}
@@ -34,9 +34,9 @@ rejected-for-requires-2 c κs = search needs
 enum-known-place : tie.Need-enum-known-place
 enum-known-place c = search needs
 
-reconfigure-at-requires : tie.Need-reconfigure-at-requires
+renew-at-requires : tie.Need-renew-at-requires
 unfolding ourIn
-reconfigure-at-requires c κs =
+renew-at-requires c κs =
     let known = c .before .before .before in
     let placed = known .before .before in
     let long = placed .before .before in
@@ -78,7 +78,7 @@ reconfigure-spec =
     enum-told
     rejected-for-requires-2
     enum-known-place
-    reconfigure-at-requires
+    renew-at-requires
     same-length-2
     returns-2
     same-length-3

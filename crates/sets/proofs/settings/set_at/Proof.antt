@@ -1,5 +1,5 @@
 -- `set_at` meets its contract: each way out has passed the checks before it, and what it says and writes is a law of `Sets`.
-use Prim.Native.Nat.{ℕ, _/_}
+use Prim.Native.Nat.{ℕ}
 use mathlib.Core.Path.{_≡_, sym, ap, _∙_}
 use mathlib.Core.List.{List}
 use mathlib.Core.Bool.{true}
@@ -86,7 +86,9 @@ returns-2 c =
       (sym (wrong .before .far-right .ensures) ∙ not-true _ (wrong .if2 .taken)) (c .before .before .rejected-for2 .ensures)
 
 part-requires : tie.Need-part-requires
-part-requires c κs = let start = start-of (c .before .before .before .before .before) in met (start .pre .0) (start .pre .2) .placed .inside
+part-requires c κs =
+    let start = start-of (c .before .before .before .before .before) in
+    met (start .pre .0) (start .pre .2) .placed .inside
 
 setting-requires : tie.Need-setting-requires
 setting-requires c κs = search needs

@@ -1,4 +1,4 @@
--- `reconfigure_at` meets its contract: each way out has passed the checks before it, and what it says and writes is a law of `Anew`.
+-- `renew_at` meets its contract: each way out has passed the checks before it, and what it says and writes is a law of `Anew`.
 use Prim.Native.Nat.{ℕ}
 use mathlib.Core.Path.{_≡_, sym, ap₂, _∙_, subst}
 use mathlib.Core.List.{List}
@@ -19,8 +19,8 @@ use Rattle.lists.specs.Asks.{LastMarked}
 use Rattle.lists.proofs.Passing.{none-last}
 use Rattle.sets.proofs.Doings.{met}
 use Rattle.sets.proofs.Anew.{renews, idle-refused, closed-refused, fault-refused, anew-moves}
-use Rattle.sets.proofs.renewals.reconfigure_at.Statement.{statement}
-use Rattle.sets.proofs.renewals.reconfigure_at.Tie as tie
+use Rattle.sets.proofs.renewals.renew_at.Statement.{statement}
+use Rattle.sets.proofs.renewals.renew_at.Tie as tie
 
 -- ---- What is known on the way
 
@@ -35,7 +35,8 @@ opened c = sym (c .before .is-open .ensures) ∙ not-false _ (c .if2 .left)
 
 found : (c : tie.After-walk)
   → let args = start-of (c .before .before .before .before .before .before .before) .args in
-    c .walk .result ≡ walkOf Reconfiguring (items (take (args .size) (drop (args .from) (args .book .now)))) (args .payload .now) 1 noMarks
+    c .walk .result
+    ≡ walkOf Reconfiguring (items (take (args .size) (drop (args .from) (args .book .now)))) (args .payload .now) 1 noMarks
 unfolding part
 found c =
     let args = start-of (c .before .before .before .before .before .before .before) .args in
@@ -88,7 +89,9 @@ returns-2 c =
       (sym (closed .before .is-open .ensures) ∙ not-true _ (closed .if2 .taken)) (c .before .before .rejected-for2 .ensures)
 
 part-requires : tie.Need-part-requires
-part-requires c κs = let start = start-of (c .before .before .before .before) in met (start .pre .0) (start .pre .2) .placed .inside
+part-requires c κs =
+    let start = start-of (c .before .before .before .before) in
+    met (start .pre .0) (start .pre .2) .placed .inside
 
 none-requires : tie.Need-none-requires
 none-requires c κs = search needs
@@ -117,8 +120,8 @@ renew-requires c κs =
     let past = checked .before .before .before in
     let got = past .before .before .before .before in
     let start = start-of got in
-    renews (start .pre .0) (start .pre .2) (got .get .ensures) (busy (past .before .before)) (checked .before .before .part .ensures)
-      (sym (found checked) ∙ clean .walked2 .given .1)
+    renews (start .pre .0) (start .pre .2) (got .get .ensures) (busy (past .before .before))
+      (checked .before .before .part .ensures) (sym (found checked) ∙ clean .walked2 .given .1)
 
 accepted-requires : tie.Need-accepted-requires
 accepted-requires c κs = search needs
@@ -153,8 +156,8 @@ returns-4 c =
     anew-moves (start .pre .0) (start .pre .2) (got .get .ensures) (start .pre .1) (busy (past .before .before)) (opened past)
       (sym (found checked) ∙ clean .walked2 .given .1) (c .accepted .ensures) (renewed .renew .ensures)
 
-pub reconfigure-at-spec : {M : Type 1} → statement M
-reconfigure-at-spec =
+pub renew-at-spec : {M : Type 1} → statement M
+renew-at-spec =
     tie.close
     (tie.spec
     get-requires
