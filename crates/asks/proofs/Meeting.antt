@@ -76,7 +76,7 @@ module _ (book p : List ℕ) where
     unfolding atEndpoint foundOr
     answered right i n t e = rw (t, e)
 
--- ---- Commands that only read
+-- ---- What is said and done
 
 pub says-code : (code : ℕ) {said : Said} {before after : List ℕ}
   → (said ≡ saidOf (reject (code ∷ []))) × (after ≡ front (code ∷ []) before) → Says (rejectBare code) said before after

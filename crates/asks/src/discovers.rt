@@ -27,6 +27,7 @@ fn in_use(records: &[u8], i: usize) -> u8
     }
 }
 
+// Writes the whole answer, of which there are at most 32 octets.
 fn list_entries(book: &[u8], records: &[u8], reply: &mut [u8]) -> Said
     requires { ⌜ (bookNumber (now book) ≡ 0) × (length (bookOf (now book)) * recordRoom ≤ length (now records))
       × (32 ≤ length (now reply)) ⌝ }

@@ -16,6 +16,7 @@ pub enum Met {
     Here { index: usize, kind: u8, from: usize, size: usize },
 }
 
+// `right` says whether the length is right.
 pub fn meet(book: &[u8], payload: &[u8], right: bool) -> Met
     requires { ⌜ (bookNumber (now book) ≡ 0) × (right ≡ true → 1 ≤ length (now payload)) ⌝ }
     ensures { λ r. ⌜ r ≡ metIn right (now (book .entry)) (now (payload .entry)) ⌝ }

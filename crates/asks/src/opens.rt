@@ -1,4 +1,4 @@
-// 06 Open: a configured endpoint awaits its channel, where no other one does.
+// 06 Open: a configured endpoint opens and awaits its channel, where none awaits one already.
 use crate::meets::Met;
 use crate::meets::meet;
 use crate::states::is_configured;
