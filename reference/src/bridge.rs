@@ -1,0 +1,155 @@
+//! The host's calls: document 01, "What the host is told", with the order of the refusals. A refusal changes
+//! nothing.
+
+use crate::book::{Book, OurSeid};
+use crate::commands::{serve, AbortFlaw, Answer};
+use crate::endpoints::{Channel, Connection, Record};
+use crate::numbers::*;
+use crate::packets::{self, take, Flaw, Message, Taken, LONGEST_PAYLOAD};
+
+pub const SMALLEST_SIZE: usize = 48;
+pub const LARGEST_SIZE: usize = 672;
+pub const SMALLEST_REPLY_AREA: usize = 64;
+
+/// Why a packet has no reply.
+#[derive(Clone, Copy, PartialEq, Eq, PartialOrd, Ord, Debug)]
+pub enum Silence {
+    Part,
+    Ended(Flaw),
+    NotACommand,
+    Abort(AbortFlaw),
+}
+
+pub enum PacketAnswer {
+    Refused(Number),
+    Silent(Silence),
+    Reply(Message),
+}
+
+#[derive(Clone, Copy, PartialEq, Eq)]
+pub enum Event {
+    Up,
+    Down(OurSeid),
+    Lost,
+}
+
+pub fn size_is_good(size: usize) -> bool {
+    (SMALLEST_SIZE..=LARGEST_SIZE).contains(&size)
+}
+
+/// Order: 8, 9, 12. The book was read before.
+pub fn packet(
+    book: &Book,
+    size: usize,
+    connection: &mut Connection,
+    packet: &[u8],
+    reply_area: usize,
+) -> PacketAnswer {
+    if !size_is_good(size) {
+        return PacketAnswer::Refused(SIZE);
+    }
+    if reply_area < SMALLEST_REPLY_AREA {
+        return PacketAnswer::Refused(AREA);
+    }
+    if !connection.is_legal(book) {
+        return PacketAnswer::Refused(NOT_LEGAL);
+    }
+    let message = match take(&mut connection.gathering, size, packet) {
+        Taken::Message(message) => message,
+        Taken::Part => return PacketAnswer::Silent(Silence::Part),
+        Taken::Ended(flaw) => return PacketAnswer::Silent(Silence::Ended(flaw)),
+    };
+    if message.message_type != packets::COMMAND {
+        return PacketAnswer::Silent(Silence::NotACommand);
+    }
+    let (message_type, payload) = match serve(book, &mut connection.records, message.signal, &message.payload)
+    {
+        Answer::Accept(payload) => (packets::ACCEPT, payload),
+        Answer::Reject(payload) => (packets::REJECT, payload),
+        Answer::GeneralReject => (packets::GENERAL_REJECT, Vec::new()),
+        Answer::Silent(flaw) => return PacketAnswer::Silent(Silence::Abort(flaw)),
+    };
+    PacketAnswer::Reply(Message { message_type, payload, ..message })
+}
+
+/// Order: 12, 10.
+pub fn event(book: &Book, connection: &mut Connection, event: Event) -> Number {
+    if !connection.is_legal(book) {
+        return NOT_LEGAL;
+    }
+    match event {
+        Event::Up => channel_up(connection),
+        Event::Down(seid) => channel_down(connection, seid),
+        Event::Lost => {
+            *connection = Connection::fresh(book);
+            DONE
+        }
+    }
+}
+
+fn channel_up(connection: &mut Connection) -> Number {
+    match connection.awaiting() {
+        Some(record) => {
+            record.channel = Channel::Up;
+            DONE
+        }
+        None => DOES_NOT_APPLY,
+    }
+}
+
+/// An endpoint that only awaits its channel has none (DESIGN, open point 10).
+fn channel_down(connection: &mut Connection, seid: OurSeid) -> Number {
+    let found = connection.records.iter_mut().find(|record| record.seid == seid);
+    match found {
+        Some(record) if record.channel == Channel::Up => {
+            record.become_idle();
+            DONE
+        }
+        _ => DOES_NOT_APPLY,
+    }
+}
+
+/// The record and the offered list of a named endpoint. Order: 12, 10.
+fn asked_about<'a>(
+    book: &'a Book,
+    connection: &'a Connection,
+    seid: OurSeid,
+) -> Result<(&'a Record, &'a [u8]), Number> {
+    if !connection.is_legal(book) {
+        return Err(NOT_LEGAL);
+    }
+    let place = book.place_of(seid).ok_or(DOES_NOT_APPLY)?;
+    Ok((&connection.records[place], &book.entries[place].offered))
+}
+
+/// The configuration if there is one, else the offered list.
+pub fn settings<'a>(book: &'a Book, connection: &'a Connection, seid: OurSeid) -> Result<&'a [u8], Number> {
+    let (record, offered) = asked_about(book, connection, seid)?;
+    Ok(if record.config.is_empty() { offered } else { &record.config })
+}
+
+/// The reported delay in tenths of a millisecond, if one was reported.
+pub fn delay(book: &Book, connection: &Connection, seid: OurSeid) -> Result<Option<u16>, Number> {
+    let (record, _) = asked_about(book, connection, seid)?;
+    Ok(record.delay)
+}
+
+/// One packet of a message. Order: 8, 11, 9.
+pub fn cut(size: usize, message: &Message, number: usize, area: usize) -> Result<Vec<u8>, Number> {
+    if !size_is_good(size) {
+        return Err(SIZE);
+    }
+    if number >= packets::packet_count(size, message.payload.len())
+        || message.payload.len() > LONGEST_PAYLOAD
+        || message.label > 15
+        || message.message_type > 3
+        || message.signal > 63
+    {
+        return Err(CUT);
+    }
+    let packet = packets::packet(size, message, number);
+    if area < packet.len() {
+        return Err(AREA);
+    }
+    Ok(packet)
+}

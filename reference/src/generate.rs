@@ -1,0 +1,351 @@
+//! A random script that reaches every corner of document 01. The generator runs each line that it writes, so that it
+//! knows the endpoints' states and mostly chooses steps that are accepted.
+
+mod books;
+mod calls;
+mod cuts;
+mod lists;
+mod parts;
+mod payloads;
+mod saved;
+mod text;
+
+use std::collections::VecDeque;
+use std::io::{self, Write};
+
+use crate::book::{Entry, OurSeid};
+use crate::bridge::{size_is_good, Event, SMALLEST_REPLY_AREA, SMALLEST_SIZE};
+use crate::commands::DISCOVER;
+use crate::endpoints::{Channel, Record};
+use crate::numbers::DONE;
+use crate::packets::{Gathering, Message};
+use crate::rng::Rng;
+use crate::script::Step;
+use crate::session::{Outcome, Session};
+
+const LONG_ROW: u8 = 20;
+
+/// Writes `count` steps; blank lines and comments come on top of these.
+pub fn script(seed: u64, count: u64, out: &mut impl Write) -> io::Result<()> {
+    let mut generator = Generator {
+        rng: Rng::new(seed),
+        session: Session::new(),
+        home: Vec::new(),
+        // At the size and the area of the start this is answered; at a smaller one it is not.
+        row: VecDeque::from([[&[0x10, DISCOVER][..], &[0; 500]].concat()]),
+        steps: 0,
+        next_longest_row: 500,
+    };
+    for _ in 0..count {
+        if generator.rng.chance(8) {
+            writeln!(out, "{}", text::blank(&mut generator.rng))?;
+        }
+        out.write_all(&generator.line())?;
+        out.write_all(b"\n")?;
+    }
+    Ok(())
+}
+
+#[derive(Clone, Copy)]
+enum Choice {
+    Message,
+    Event,
+    States,
+    Settings,
+    Delay,
+    LegalRecord,
+    DamagedRecord,
+    LegalGathering,
+    DamagedGathering,
+    NoGathering,
+    RelatedRebook,
+    DamagedRebook,
+    ValidBook,
+    DamagedBook,
+    Size,
+    Area,
+    Cut,
+    Noise,
+    AtTheSize,
+}
+
+/// How often each kind of step is chosen, by weight.
+const CHOICES: [(Choice, usize); 19] = [
+    (Choice::Message, 500),
+    (Choice::Event, 80),
+    (Choice::States, 60),
+    (Choice::Settings, 40),
+    (Choice::Delay, 40),
+    (Choice::LegalRecord, 30),
+    (Choice::DamagedRecord, 28),
+    (Choice::LegalGathering, 25),
+    (Choice::DamagedGathering, 14),
+    (Choice::NoGathering, 5),
+    (Choice::RelatedRebook, 14),
+    (Choice::DamagedRebook, 9),
+    (Choice::ValidBook, 6),
+    (Choice::DamagedBook, 22),
+    (Choice::Size, 25),
+    (Choice::Area, 12),
+    (Choice::Cut, 70),
+    (Choice::Noise, 15),
+    (Choice::AtTheSize, 10),
+];
+
+struct Generator {
+    rng: Rng,
+    session: Session,
+    /// The octets of the book that the saved connection was made for.
+    home: Vec<u8>,
+    /// Packets that are to come next.
+    row: VecDeque<Vec<u8>>,
+    steps: u64,
+    /// A row of the most packets takes long, so that it comes seldom, but soon for the first time.
+    next_longest_row: u64,
+}
+
+impl Generator {
+    fn line(&mut self) -> Vec<u8> {
+        self.steps += 1;
+        let line = if !self.in_long_row() && self.rng.chance(35) {
+            let step = self.free_step();
+            let saved = self.session.held.iter().flat_map(|held| &held.connection.records);
+            let seids: Vec<u8> = saved.map(|record| record.seid.0).chain([1]).collect();
+            let seid = self.rng.pick(&seids);
+            text::odd(&mut self.rng, &step, seid)
+        } else {
+            let step = self.step();
+            text::written(&mut self.rng, &step)
+        };
+        let outcome = self.session.line(&line);
+        if let (Outcome::Book(DONE), Some(held)) = (outcome, &self.session.held) {
+            self.home = books::same(&held.book);
+        }
+        line
+    }
+
+    /// A long row of packets would hardly ever come to its end if other messages broke in.
+    fn in_long_row(&self) -> bool {
+        let gathering = self.session.held.as_ref().and_then(|held| held.connection.gathering.as_ref());
+        !self.row.is_empty() && gathering.is_some_and(|gathering| gathering.count >= LONG_ROW)
+    }
+
+    /// Mends what would refuse every packet, goes on with a row of packets, or does something else.
+    fn step(&mut self) -> Step {
+        let Some(held) = &self.session.held else {
+            return self.free_step();
+        };
+        let size_fits = size_is_good(self.session.size.into());
+        let area_fits = usize::from(self.session.area) >= SMALLEST_REPLY_AREA;
+        let legal = held.connection.is_legal(&held.book);
+        // Two or three reasons to refuse a packet at once show which counts first.
+        if !(size_fits && area_fits && legal) && self.rng.chance(80) {
+            return if self.rng.chance(500) { Step::Size(47) } else { Step::Area(63) };
+        }
+        if !size_fits && self.rng.chance(400) {
+            return Step::Size(self.good_size());
+        }
+        if !area_fits && self.rng.chance(400) {
+            return Step::Area(self.rng.pick(&[64, 64, 65, 100, 65535]));
+        }
+        if !legal && self.rng.chance(80) {
+            return calls::any_call(&mut self.rng, held);
+        }
+        if !legal && self.rng.chance(300) {
+            return self.repair();
+        }
+        if self.row.len() > 3 && held.connection.gathering.is_none() && self.rng.chance(200) {
+            // The gathering that these packets belonged to has ended.
+            self.row.clear();
+        }
+        let underway = !self.row.is_empty() && held.connection.gathering.is_some();
+        let goes_on = if self.in_long_row() { 1000 } else { 930 };
+        if underway && !self.in_long_row() && self.rng.chance(10) {
+            // The packets that come after this belong to nothing.
+            return Step::Event(Event::Lost);
+        }
+        if !self.row.is_empty() && self.rng.chance(goes_on) {
+            // A refused packet is sent again: it did not end the gathering.
+            let refused = !(size_fits && area_fits && legal);
+            let packet = if refused { self.row.front().cloned() } else { self.row.pop_front() };
+            return Step::Packet(packet.unwrap_or_default());
+        }
+        self.free_step()
+    }
+
+    fn free_step(&mut self) -> Step {
+        let size = self.fitting_size();
+        let rng = &mut self.rng;
+        let Some(held) = &self.session.held else {
+            return self.before_any_book();
+        };
+        let weights = CHOICES.map(|(_, weight)| weight);
+        match CHOICES[rng.weighted(&weights)].0 {
+            Choice::Message => self.message(),
+            Choice::Event => match calls::event(rng, held) {
+                Some(event) => Step::Event(event),
+                None => self.message(),
+            },
+            Choice::States => Step::States,
+            Choice::Settings => Step::Settings(calls::asked(rng, held)),
+            Choice::Delay => Step::Delay(calls::asked(rng, held)),
+            Choice::LegalRecord => Step::Record(self.record(saved::legal_record)),
+            Choice::DamagedRecord => Step::Record(self.record(saved::damaged_record)),
+            Choice::LegalGathering => self.gathering(),
+            Choice::DamagedGathering => Step::Gathering(Some(saved::damaged_gathering(rng))),
+            Choice::NoGathering => Step::Gathering(None),
+            Choice::RelatedRebook => Step::Rebook(books::related(rng, &held.book)),
+            Choice::DamagedRebook => Step::Rebook(books::damaged(rng)),
+            Choice::ValidBook => Step::Book(books::valid(rng)),
+            Choice::DamagedBook => Step::Book(books::damaged(rng)),
+            Choice::Size => Step::Size(self.any_size()),
+            Choice::Area => Step::Area(rng.pick(&[0, 1, 63, 63, 63, 64, 65, 65535])),
+            Choice::Cut => cuts::cut(rng),
+            Choice::Noise => Step::Packet(parts::noise(rng, size)),
+            Choice::AtTheSize => Step::Packet(parts::at_the_size(rng, size)),
+        }
+    }
+
+    /// Some steps are not understood until a book was accepted. Size and area stay as they are at the start.
+    fn before_any_book(&mut self) -> Step {
+        let rng = &mut self.rng;
+        match rng.below(10) {
+            0 | 1 => Step::Book(books::valid(rng)),
+            2 | 3 => Step::Book(books::damaged(rng)),
+            4 => cuts::cut(rng),
+            5 | 6 => Step::Rebook(books::valid(rng)),
+            7 => Step::Packet(vec![0x10, 0x01]),
+            8 => Step::Record(Record::idle(OurSeid(1))),
+            _ => {
+                let event = rng.pick(&[Event::Up, Event::Down(OurSeid(1)), Event::Lost]);
+                let steps = [
+                    Step::States,
+                    Step::Event(event),
+                    Step::Settings(OurSeid(1)),
+                    Step::Delay(OurSeid(1)),
+                    Step::Gathering(None),
+                ];
+                steps[rng.below(steps.len())].clone()
+            }
+        }
+    }
+
+    /// Makes an illegal connection legal again, in most cases.
+    fn repair(&mut self) -> Step {
+        let rng = &mut self.rng;
+        let Some(held) = &self.session.held else {
+            return Step::Book(books::valid(rng));
+        };
+        match rng.below(10) {
+            0 => return Step::Book(books::valid(rng)),
+            1 => return Step::Rebook(self.home.clone()),
+            _ => (),
+        }
+        let connection = &held.connection;
+        if connection.gathering.as_ref().is_some_and(|gathering| !gathering.is_legal()) {
+            return if rng.chance(500) { Step::Gathering(None) } else { self.gathering() };
+        }
+        let records = &connection.records;
+        let pairs = || records.iter().zip(&held.book.entries);
+        let same_seids = pairs().all(|(record, entry)| record.seid == entry.seid);
+        if records.len() != held.book.entries.len() || !same_seids {
+            // A record that the book has no entry for can be overwritten all the same.
+            let strange = records.iter().find(|record| held.book.place_of(record.seid).is_none());
+            return match strange {
+                Some(record) if rng.chance(400) => Step::Record(Record::idle(record.seid)),
+                _ => Step::Rebook(self.home.clone()),
+            };
+        }
+        let awaits = |record: &Record| record.channel == Channel::Awaited;
+        let at_fault = pairs()
+            .find(|(record, entry)| !record.is_legal(entry))
+            .or_else(|| pairs().find(|(record, _)| awaits(record)));
+        match at_fault {
+            Some((_, entry)) if rng.chance(500) => Step::Record(saved::legal_record(rng, entry)),
+            Some((_, entry)) => Step::Record(Record::idle(entry.seid)),
+            None => Step::States,
+        }
+    }
+
+    /// A record of one of the endpoints, made by one of the functions in `saved`. Mostly the endpoint is one that was
+    /// saved, which after a `rebook` need not be one of the book's.
+    fn record(&mut self, make: fn(&mut Rng, &Entry) -> Record) -> Record {
+        let Some(held) = &self.session.held else {
+            return Record::idle(OurSeid(1));
+        };
+        let place = self.rng.below(held.book.entries.len());
+        let mut record = make(&mut self.rng, &held.book.entries[place]);
+        match held.connection.records.get(place) {
+            Some(saved) if self.rng.chance(900) => record.seid = saved.seid,
+            _ => (),
+        }
+        record
+    }
+
+    /// A legal gathering; where it owes few packets, these come next.
+    fn gathering(&mut self) -> Step {
+        let gathering: Gathering = saved::legal_gathering(&mut self.rng);
+        if gathering.count - gathering.parts <= 3 {
+            let size = self.fitting_size();
+            let owed = parts::owed(&mut self.rng, size, &gathering);
+            self.goes_first(owed);
+        }
+        Step::Gathering(Some(gathering))
+    }
+
+    fn goes_first(&mut self, packets: Vec<Vec<u8>>) {
+        for packet in packets.into_iter().rev() {
+            self.row.push_front(packet);
+        }
+    }
+
+    /// A message in one packet or many; the first of them comes now.
+    fn message(&mut self) -> Step {
+        let size = self.fitting_size();
+        let rng = &mut self.rng;
+        let Some(held) = &self.session.held else {
+            return Step::Book(books::valid(rng));
+        };
+        let message = payloads::message(rng, held, size);
+        let packets = if self.steps >= self.next_longest_row {
+            self.next_longest_row += 9000;
+            parts::longest_row(rng, size, &message)
+        } else {
+            let mut packets = parts::packets(rng, size, &message);
+            if rng.chance(if packets.len() == 1 { 40 } else { 350 }) {
+                let (signal, payload) = payloads::command(rng, held);
+                let label = rng.octet() & 0x0F;
+                let other = Message { label, message_type: 0, signal, payload };
+                let other = parts::single(rng, &other);
+                parts::disturb(rng, size, &mut packets, other);
+            }
+            packets
+        };
+        self.goes_first(packets);
+        Step::Packet(self.row.pop_front().unwrap_or_default())
+    }
+
+    fn good_size(&mut self) -> u16 {
+        match self.rng.below(4) {
+            0 => 48,
+            1 => self.rng.between(48, 68) as u16,
+            2 => 672,
+            _ => self.rng.between(48, 672) as u16,
+        }
+    }
+
+    fn any_size(&mut self) -> u16 {
+        match self.rng.below(6) {
+            0 => self.rng.pick(&[0, 2, 47, 47, 673, 673, 65535]),
+            _ => self.good_size(),
+        }
+    }
+
+    /// The size in use, or one to cut messages by while that is none.
+    fn fitting_size(&self) -> usize {
+        match usize::from(self.session.size) {
+            size if size_is_good(size) => size,
+            _ => SMALLEST_SIZE,
+        }
+    }
+}
