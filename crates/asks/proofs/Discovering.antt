@@ -15,12 +15,11 @@ use Rattle.rules.specs.Answers.{saidOf}
 use Rattle.rules.proofs.Tests.{and-l, and-r, between-most}
 use Rattle.rules.proofs.RightBook.{entryRight, right-book}
 use Rattle.octets.specs.Patch.{patch}
-use Rattle.octets.proofs.Patches.{front-patch}
-use Rattle.configs.proofs.Writes.{patch-none, patch-behind}
+use Rattle.octets.proofs.Patches.{front-patch, patch-none, patch-behind}
 use Rattle.book.proofs.Entries.{RightEntry, RightEntries, first-entry, other-entries, right-head}
 use Rattle.book.proofs.Found.{entryBy, entries-first, book-length}
 use Rattle.saved.specs.Records.{recordAt}
-use Rattle.asks.specs.Done.{Says}
+use Rattle.asks.specs.Says.{Says}
 
 -- ---- The entries that are left
 

@@ -1,4 +1,3 @@
 pub mod Meeting
-pub mod Configs
 pub mod Moving
 pub mod Discovering

@@ -1,3 +1,3 @@
 pub mod Met
-pub mod Done
+pub mod Says
 pub mod Shown

@@ -1,12 +1,12 @@
 // 0D Delay Report: the delay in tenths of a millisecond, high octet first.
 use crate::meets::Met;
 use crate::meets::meet;
-use crate::states::config;
-use crate::states::is_set;
 use rules::Said;
 use saved::moves::delayed;
+use saved::records::config;
 use saved::records::get;
 use saved::records::set;
+use saved::tests::is_set;
 
 ghost use mathlib.Core.Path.{_≡_};
 ghost use mathlib.Core.Bool.{_&&_};
@@ -14,7 +14,7 @@ ghost use Rattle.rules.specs.Elements.{items, has};
 ghost use Rattle.rules.specs.Book.{isSource};
 ghost use Rattle.rules.specs.Commands.{delayReport};
 ghost use Rattle.saved.specs.Serves.{Serves};
-ghost use Rattle.asks.specs.Done.{done, obeyed};
+ghost use Rattle.replies.specs.Obeys.{Obeys};
 
 // Whether a delay can be reported: to a source whose configuration has category 8, which has no value.
 fn takes_delay(kind: u8, config: &[u8]) -> bool
@@ -28,8 +28,8 @@ fn takes_delay(kind: u8, config: &[u8]) -> bool
 
 pub fn delay_report(book: &[u8], records: &mut [u8], payload: &[u8], reply: &mut [u8]) -> Said
     requires { ⌜ Serves (now book) (now records) (now payload) (now reply) ⌝ }
-    ensures { λ r. ⌜ done r (now (records .exit)) (now (reply .exit))
-      ≡ obeyed delayReport (now (book .entry)) (now (records .entry)) (now (payload .entry)) (now (reply .entry)) ⌝ }
+    ensures { λ r. ⌜ Obeys delayReport (now (book .entry)) (now (records .entry)) (now (payload .entry)) (now (reply .entry))
+      r (now (records .exit)) (now (reply .exit)) ⌝ }
 {
     let met = meet(book, payload, payload.len() == 3);
     match met {

@@ -1,7 +1,7 @@
 // 01 Discover: two octets for each entry of the book, its SEID with whether it is in use, and its kind octet.
 use rules::Said;
-use rules::State;
 use saved::records::get;
+use saved::tests::is_idle;
 
 ghost use mathlib.Core.Path.{_≡_};
 ghost use Prim.Native.Nat.{_+_, _*_, _≤_};
@@ -12,7 +12,8 @@ ghost use Rattle.rules.specs.Commands.{accept, inUse, discovered};
 ghost use Rattle.rules.specs.Commands.{discover as discoverAll};
 ghost use Rattle.saved.specs.Records.{recordAt};
 ghost use Rattle.saved.specs.Serves.{Serves};
-ghost use Rattle.asks.specs.Done.{Says, done, obeyed};
+ghost use Rattle.replies.specs.Obeys.{Obeys};
+ghost use Rattle.asks.specs.Says.{Says};
 
 // The bit that says that the endpoint of record i is in use.
 fn in_use(records: &[u8], i: usize) -> u8
@@ -21,10 +22,7 @@ fn in_use(records: &[u8], i: usize) -> u8
 {
     let e = get(records, i);
     let state = e.state;
-    match state {
-        State::Idle => 0,
-        _ => 2,
-    }
+    if is_idle(state) { 0 } else { 2 }
 }
 
 // Writes the whole answer, of which there are at most 32 octets.
@@ -52,8 +50,8 @@ fn list_entries(book: &[u8], records: &[u8], reply: &mut [u8]) -> Said
 
 pub fn discover(book: &[u8], records: &[u8], payload: &[u8], reply: &mut [u8]) -> Said
     requires { ⌜ Serves (now book) (now records) (now payload) (now reply) ⌝ }
-    ensures { λ r. ⌜ done r (now (records .entry)) (now (reply .exit))
-      ≡ obeyed discoverAll (now (book .entry)) (now (records .entry)) (now (payload .entry)) (now (reply .entry)) ⌝ }
+    ensures { λ r. ⌜ Obeys discoverAll (now (book .entry)) (now (records .entry)) (now (payload .entry)) (now (reply .entry))
+      r (now (records .entry)) (now (reply .exit)) ⌝ }
 {
     if payload.len() == 0 {
         list_entries(book, records, reply)

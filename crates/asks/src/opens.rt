@@ -1,11 +1,11 @@
 // 06 Open: a configured endpoint opens and awaits its channel, where none awaits one already.
 use crate::meets::Met;
 use crate::meets::meet;
-use crate::states::is_configured;
 use rules::Said;
 use saved::moves::opened;
 use saved::records::get;
 use saved::records::set;
+use saved::tests::is_configured;
 
 ghost use mathlib.Core.Path.{_≡_};
 ghost use Prim.Native.Nat.{_*_, _≤_};
@@ -15,7 +15,7 @@ ghost use Rattle.rules.specs.Endpoints.{awaiting};
 ghost use Rattle.rules.specs.Saved.{recordRoom, endsIn};
 ghost use Rattle.rules.specs.Commands.{openUp};
 ghost use Rattle.saved.specs.Serves.{Serves};
-ghost use Rattle.asks.specs.Done.{done, obeyed};
+ghost use Rattle.replies.specs.Obeys.{Obeys};
 
 // Whether no endpoint awaits its channel: the channel's octet is 1 where one does.
 fn none_awaits(records: &[u8], count: usize) -> bool
@@ -34,8 +34,8 @@ fn none_awaits(records: &[u8], count: usize) -> bool
 
 pub fn open_up(book: &[u8], records: &mut [u8], payload: &[u8], reply: &mut [u8]) -> Said
     requires { ⌜ Serves (now book) (now records) (now payload) (now reply) ⌝ }
-    ensures { λ r. ⌜ done r (now (records .exit)) (now (reply .exit))
-      ≡ obeyed openUp (now (book .entry)) (now (records .entry)) (now (payload .entry)) (now (reply .entry)) ⌝ }
+    ensures { λ r. ⌜ Obeys openUp (now (book .entry)) (now (records .entry)) (now (payload .entry)) (now (reply .entry))
+      r (now (records .exit)) (now (reply .exit)) ⌝ }
 {
     let met = meet(book, payload, payload.len() == 1);
     match met {

@@ -1,19 +1,19 @@
 // The commands that only read.
 use crate::meets::Met;
 use crate::meets::meet;
-use crate::states::config;
-use crate::states::is_set;
 use rules::Said;
+use saved::records::config;
 use saved::records::get;
+use saved::tests::is_set;
 
-ghost use mathlib.Core.Path.{_≡_};
 ghost use Prim.Native.Nat.{_≤_};
 ghost use lib.ListN.{length};
 ghost use Rattle.rules.specs.Book.{shownBy02, shownBy0C};
 ghost use Rattle.rules.specs.Commands.{accept, getConfiguration, securityControl};
 ghost use Rattle.rules.specs.Commands.{capabilities as offersOf};
 ghost use Rattle.saved.specs.Serves.{Serves};
-ghost use Rattle.asks.specs.Done.{Says, done, obeyed};
+ghost use Rattle.replies.specs.Obeys.{Obeys};
+ghost use Rattle.asks.specs.Says.{Says};
 ghost use Rattle.asks.specs.Shown.{shownBy};
 
 // An accept with a payload.
@@ -31,8 +31,8 @@ fn accepted_with(reply: &mut [u8], payload: &[u8]) -> Said
 // What an endpoint offers: all of its list, or the elements of categories 1 to 7.
 fn capabilities(book: &[u8], records: &[u8], payload: &[u8], reply: &mut [u8], all: bool) -> Said
     requires { ⌜ Serves (now book) (now records) (now payload) (now reply) ⌝ }
-    ensures { λ r. ⌜ done r (now (records .entry)) (now (reply .exit))
-      ≡ obeyed (offersOf (shownBy all)) (now (book .entry)) (now (records .entry)) (now (payload .entry)) (now (reply .entry)) ⌝ }
+    ensures { λ r. ⌜ Obeys (offersOf (shownBy all)) (now (book .entry)) (now (records .entry)) (now (payload .entry))
+      (now (reply .entry)) r (now (records .entry)) (now (reply .exit)) ⌝ }
 {
     let met = meet(book, payload, payload.len() == 1);
     match met {
@@ -56,8 +56,8 @@ fn capabilities(book: &[u8], records: &[u8], payload: &[u8], reply: &mut [u8], a
 // 02.
 pub fn get_capabilities(book: &[u8], records: &[u8], payload: &[u8], reply: &mut [u8]) -> Said
     requires { ⌜ Serves (now book) (now records) (now payload) (now reply) ⌝ }
-    ensures { λ r. ⌜ done r (now (records .entry)) (now (reply .exit))
-      ≡ obeyed (offersOf shownBy02) (now (book .entry)) (now (records .entry)) (now (payload .entry)) (now (reply .entry)) ⌝ }
+    ensures { λ r. ⌜ Obeys (offersOf shownBy02) (now (book .entry)) (now (records .entry)) (now (payload .entry))
+      (now (reply .entry)) r (now (records .entry)) (now (reply .exit)) ⌝ }
 {
     capabilities(book, records, payload, reply, false)
 }
@@ -65,8 +65,8 @@ pub fn get_capabilities(book: &[u8], records: &[u8], payload: &[u8], reply: &mut
 // 0C.
 pub fn get_all_capabilities(book: &[u8], records: &[u8], payload: &[u8], reply: &mut [u8]) -> Said
     requires { ⌜ Serves (now book) (now records) (now payload) (now reply) ⌝ }
-    ensures { λ r. ⌜ done r (now (records .entry)) (now (reply .exit))
-      ≡ obeyed (offersOf shownBy0C) (now (book .entry)) (now (records .entry)) (now (payload .entry)) (now (reply .entry)) ⌝ }
+    ensures { λ r. ⌜ Obeys (offersOf shownBy0C) (now (book .entry)) (now (records .entry)) (now (payload .entry))
+      (now (reply .entry)) r (now (records .entry)) (now (reply .exit)) ⌝ }
 {
     capabilities(book, records, payload, reply, true)
 }
@@ -74,8 +74,8 @@ pub fn get_all_capabilities(book: &[u8], records: &[u8], payload: &[u8], reply: 
 // 04: the configuration as it is stored.
 pub fn get_configuration(book: &[u8], records: &[u8], payload: &[u8], reply: &mut [u8]) -> Said
     requires { ⌜ Serves (now book) (now records) (now payload) (now reply) ⌝ }
-    ensures { λ r. ⌜ done r (now (records .entry)) (now (reply .exit))
-      ≡ obeyed getConfiguration (now (book .entry)) (now (records .entry)) (now (payload .entry)) (now (reply .entry)) ⌝ }
+    ensures { λ r. ⌜ Obeys getConfiguration (now (book .entry)) (now (records .entry)) (now (payload .entry)) (now (reply .entry))
+      r (now (records .entry)) (now (reply .exit)) ⌝ }
 {
     let met = meet(book, payload, payload.len() == 1);
     match met {
@@ -100,8 +100,8 @@ pub fn get_configuration(book: &[u8], records: &[u8], payload: &[u8], reply: &mu
 // 0B: no content protection is spoken here.
 pub fn security_control(book: &[u8], records: &[u8], payload: &[u8], reply: &mut [u8]) -> Said
     requires { ⌜ Serves (now book) (now records) (now payload) (now reply) ⌝ }
-    ensures { λ r. ⌜ done r (now (records .entry)) (now (reply .exit))
-      ≡ obeyed securityControl (now (book .entry)) (now (records .entry)) (now (payload .entry)) (now (reply .entry)) ⌝ }
+    ensures { λ r. ⌜ Obeys securityControl (now (book .entry)) (now (records .entry)) (now (payload .entry)) (now (reply .entry))
+      r (now (records .entry)) (now (reply .exit)) ⌝ }
 {
     let met = meet(book, payload, 1 <= payload.len());
     match met {

@@ -82,9 +82,12 @@ unfolding placeFrom foundBy find entriesIn counted
 found-from zero s b at i = refl
 found-from (suc n) s b at i = found-turn n s b at i (told (eqb (getD b at 0) (s .0))) (found-from n s b)
 
-pub found-in : (s : OurSeid) (b : List ℕ) → foundBy s (placeIn s b) b ≡ find s (bookOf b)
+found-in : (s : OurSeid) (b : List ℕ) → foundBy s (placeIn s b) b ≡ find s (bookOf b)
 unfolding placeIn bookOf
 found-in s b = found-from (getD b 5 0) s b 6 0 ∙ counted-none _
+
+pub found-as : (s : OurSeid) (b : List ℕ) (p : Place) → placeIn s b ≡ p → find s (bookOf b) ≡ foundBy s p b
+found-as s b p e = sym (found-in s b) ∙ ap (λ (x : Place). foundBy s x b) e
 
 -- ---- What a place says of a right book
 
@@ -132,8 +135,7 @@ pub placed : (s : OurSeid) (b : List ℕ) (i kind from size : ℕ) → bookNumbe
 unfolding placeIn foundBy
 placed s b i kind from size h e =
     let lies = lies-from (getD b 5 0) s b 6 0 i kind from size (right-head b h .entries) e in
-    let found =
-          find-known s (bookOf b) i (entryBy s b kind from size) (sym (found-in s b) ∙ ap (λ (p : Place). foundBy s p b) e) in
+    let found = find-known s (bookOf b) i (entryBy s b kind from size) (found-as s b (Known i kind from size) e) in
     record {
       place = found .place;
       counted = at-inside (found .place);

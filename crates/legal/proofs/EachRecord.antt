@@ -23,11 +23,7 @@ use Rattle.legal.specs.Legal.{settingsRight, awaitsIn, recordLegal, reco
 
 -- ---- One record
 
--- how long the parts are that the code takes
-pub part-long : (from size : ℕ) (l : List ℕ) → from + size ≤ length l → length (part from size l) ≡ size
-unfolding part
-part-long from size l h = rw (length-take, length-drop) (omega arith)
-
+-- a part is no longer than was asked for
 pub part-short : (from size : ℕ) (l : List ℕ) → size ≤ 64 → length (part from size l) ≤ 64
 unfolding part
 part-short from size l h = rw length-take (omega arith)

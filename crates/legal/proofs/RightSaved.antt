@@ -1,20 +1,20 @@
 -- The saved area as a whole: its two parts are tested apart, and what the test tells where it passes.
-use Prim.Native.Nat.{ℕ, suc, _+_, _-_, _*_, _≤_, _<_}
+use Prim.Native.Nat.{ℕ, _+_, _-_, _*_, _≤_, _<_}
 use native.Mathlib.Nat.{zero-add}
 use native.Mathlib.Omega.{arith}
 use mathlib.Core.Path.{_≡_, refl, sym, ap, _∙_}
-use mathlib.Core.List.{List, [], _∷_}
+use mathlib.Core.List.{List}
 use mathlib.Core.Bool.{Bool, true, false, _&&_}
-use lib.ListN.{length, take, drop, getD, length-drop}
+use lib.ListN.{length, take, drop, length-drop}
 use lib.Seq.{take-all}
-use lib.Dec.{leb, ltb}
-use borrow.Author.Tests.{leb-true, le-leb, lt-leb, lt-ltb}
-use Rattle.rules.specs.Octets.{each-of, octetsIn}
+use lib.Dec.{leb}
+use borrow.Author.Tests.{leb-true, le-leb, lt-leb}
+use Rattle.rules.specs.Octets.{octetsIn}
 use Rattle.rules.specs.Book.{Book, bookNumber, bookOf}
 use Rattle.rules.specs.Endpoints.{legalEnds, awaiting, legalGathering, legal}
 use Rattle.rules.specs.Saved.{gatheringRoom, areaFor, endsIn, recordsRight, gatheringIn, gatheringOctetsRight}
 use Rattle.rules.specs.Saved.{connectionIn, savedRight}
-use Rattle.rules.proofs.Tests.{and-l, and-r, and-both}
+use Rattle.rules.proofs.Tests.{and-l, and-r}
 use Rattle.rules.proofs.SavedReads.{octets-drop, gathering-room, records-room}
 use Rattle.octets.specs.Patch.{part}
 use Rattle.wire.specs.Rooms.{RoomRight}
@@ -79,13 +79,6 @@ module _ (book : Book) (l : List ℕ) where
         ap (recordsLegal book (length book) 0) behind-room ∙ sym (two-parts book l ∙ rw (roomy, t))
 
 -- ---- What a right saved area holds
-
--- the octets of a slice are octets
-pub octets-known : (l : List ℕ) → ((i : ℕ) → getD l i 0 < 256) → octetsIn l ≡ true
-unfolding each-of
-octets-known [] h = refl
-octets-known (o ∷ l) h =
-    and-both (ltb o 256) (octetsIn l) (lt-ltb o 256 (h 0)) (octets-known l (λ i. h (suc i)))
 
 -- what everything behind the check may count on
 pub record Right (book saved : List ℕ) : Type 0 where

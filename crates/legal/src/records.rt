@@ -6,6 +6,9 @@ use rules::Channel;
 use rules::OurSeid;
 use rules::State;
 use saved::records::load;
+use saved::tests::is_absent;
+use saved::tests::is_idle;
+use saved::tests::is_up;
 
 ghost use mathlib.Core.Path.{_≡_};
 ghost use mathlib.Core.Bool.{_&&_, _||_};
@@ -13,42 +16,9 @@ ghost use Prim.Native.Nat.{_*_, _≤_};
 ghost use lib.ListN.{length};
 ghost use lib.Dec.{eqb};
 ghost use Rattle.rules.specs.Book.{bookNumber, bookOf};
-ghost use Rattle.rules.specs.Endpoints.{isAbsent, isUp, isIdle, channelRight};
+ghost use Rattle.rules.specs.Endpoints.{channelRight};
 ghost use Rattle.rules.specs.Saved.{recordRoom, recordRight};
 ghost use Rattle.legal.specs.Legal.{awaitsIn, recordLegal, recordsLegal};
-
-fn is_absent(channel: Channel) -> bool
-    ensures { λ r. ⌜ r ≡ isAbsent channel ⌝ }
-{
-    match channel {
-        Channel::Absent => true,
-        Channel::Awaited => false,
-        Channel::Up => false,
-    }
-}
-
-fn is_up(channel: Channel) -> bool
-    ensures { λ r. ⌜ r ≡ isUp channel ⌝ }
-{
-    match channel {
-        Channel::Absent => false,
-        Channel::Awaited => false,
-        Channel::Up => true,
-    }
-}
-
-fn is_idle(state: State) -> bool
-    ensures { λ r. ⌜ r ≡ isIdle state ⌝ }
-{
-    match state {
-        State::Idle => true,
-        State::Configured => false,
-        State::Open => false,
-        State::Streaming => false,
-        State::Closing => false,
-        State::Aborting => false,
-    }
-}
 
 fn channel_right(state: State, channel: Channel) -> bool
     ensures { λ r. ⌜ r ≡ channelRight state channel ⌝ }

@@ -6,6 +6,7 @@ use rules::Delay;
 use rules::FarSeid;
 use rules::Marks;
 use rules::Walked;
+use saved::tests::far_right;
 
 ghost use mathlib.Core.Path.{_≡_};
 ghost use mathlib.Core.Bool.{not, _&&_, _||_};
@@ -14,7 +15,7 @@ ghost use lib.ListN.{length};
 ghost use lib.Dec.{eqb};
 ghost use Rattle.rules.specs.Octets.{sameOctets};
 ghost use Rattle.rules.specs.Book.{isSource};
-ghost use Rattle.rules.specs.Endpoints.{isReported, farRight};
+ghost use Rattle.rules.specs.Endpoints.{isReported};
 ghost use Rattle.rules.specs.Walks.{noMarks};
 ghost use Rattle.configs.specs.Stores.{markedStore, MarksFit};
 ghost use Rattle.legal.specs.Legal.{settingsRight};
@@ -29,15 +30,6 @@ fn stores_same(config: &[u8], marks: Marks) -> bool
     let mut again = [0u8; 64];
     let size = configs::config::store(&mut again, 0, config, marks, config, left);
     octets::same(octets::part(&again, 0, size), config)
-}
-
-fn far_right(far: FarSeid) -> bool
-    ensures { λ r. ⌜ r ≡ farRight far ⌝ }
-{
-    if far.0 < 1 {
-        return false;
-    }
-    far.0 <= 62
 }
 
 // Whether the delay may be there, where the element of category 8 has this mark.

@@ -4,7 +4,6 @@ use mathlib.Core.Path.{_≡_, refl, sym, ap, ap₂, _∙_, subst}
 use mathlib.Core.List.{List}
 use mathlib.Core.Bool.{Bool, true, false}
 use native.Mathlib.Decide.{decLt}
-use native.Mathlib.Nat.{mul-le-mul-right}
 use native.Mathlib.Omega.{arith}
 use lib.ListN.{length, set}
 use borrow.Author.Tests.{ne-eqb, eq-eqb}
@@ -17,7 +16,7 @@ use Rattle.octets.specs.Patch.{patch}
 use Rattle.saved.specs.Records.{loaded, endpointOf, headOctets, recordAt}
 use Rattle.saved.specs.Moved.{upHead}
 use Rattle.saved.specs.Held.{Held}
-use Rattle.saved.proofs.OneStore.{loaded-one, head-moved}
+use Rattle.saved.proofs.OneStore.{loaded-one, record-inside, head-moved}
 use Rattle.saved.specs.declared.records.Endpoint.{Endpoint as Head}
 use Rattle.links.specs.Events.{Turned, upped}
 
@@ -66,8 +65,7 @@ up-nowhere n i l e before =
 -- a record's place has room
 pub has-room : (n i : ℕ) (l m : List ℕ) → i < n → Held n l → m ≡ l → (i + 1) * recordRoom ≤ length m
 has-room n i l m inside held e =
-    subst (λ (x : List ℕ). (i + 1) * recordRoom ≤ length x) (sym e)
-      (omega (arith, held .room, mul-le-mul-right recordRoom inside))
+    subst (λ (x : List ℕ). (i + 1) * recordRoom ≤ length x) (sym e) (record-inside n i l inside held)
 
 -- the same from what the calls answer: h was got, h′ is h moved, and m is what was set
 pub up-done : (n i : ℕ) (l l₀ m : List ℕ) (h h′ : Head) (b : Bool) → i < n → Held n l₀ → NoneBefore (endsIn n l₀) i → l ≡ l₀

@@ -4,15 +4,14 @@ use mathlib.Core.Path.{_≡_, refl, sym, ap, _∙_}
 use mathlib.Core.List.{List}
 use mathlib.Core.Bool.{Bool, true, false}
 use lib.ListN.{length, set}
-use Rattle.rules.specs.Book.{bookNumber, bookOf, find}
+use Rattle.rules.specs.Book.{bookNumber, bookOf}
 use Rattle.rules.specs.Walks.{placeIn, foundBy}
 use Rattle.rules.specs.Endpoints.{Endpoint, endAt, isUp, forgotten, idle}
 use Rattle.rules.specs.Saved.{recordRoom, endsIn, storeEnds}
 use Rattle.rules.specs.declared.OurSeid.{OurSeid}
-use Rattle.rules.specs.declared.Place.{Place}
 use Rattle.rules.specs.declared.Place.the-variants.{Unknown, Known}
 use Rattle.octets.specs.Patch.{patch}
-use Rattle.book.proofs.Found.{found-in, placed}
+use Rattle.book.proofs.Found.{found-as, placed}
 use Rattle.saved.specs.Records.{loaded, endpointOf, headOctets, recordAt}
 use Rattle.saved.specs.Moved.{forgottenHead}
 use Rattle.saved.specs.Held.{Held}
@@ -20,9 +19,6 @@ use Rattle.saved.specs.declared.records.Endpoint.{Endpoint as Head}
 use Rattle.saved.proofs.OneStore.{loaded-one, head-emptied}
 use Rattle.links.specs.Events.{Turned, downedAt, downed}
 use Rattle.links.proofs.Awaits.{channel-shown, has-room}
-
-found-as : (s : OurSeid) (b : List ℕ) (p : Place) → placeIn s b ≡ p → find s (bookOf b) ≡ foundBy s p b
-found-as s b p e = sym (found-in s b) ∙ ap (λ (x : Place). foundBy s x b) e
 
 pub down-unknown : (s : OurSeid) (b l : List ℕ) → placeIn s b ≡ Unknown
   → _≡_ {A = Turned} (record { number = 10; records = l }) (downed s (bookOf b) l)

@@ -1,31 +1,22 @@
 -- Link lost over the records: after i turns the first i are idle and the rest are as they were, by induction on the records before.
 use Prim.Native.Nat.{ℕ, zero, suc, _+_, _*_, _≤_}
 use mathlib.Core.Path.{_≡_, refl, sym, ap, ap₂, _∙_}
-use mathlib.Core.List.{List, _++_, append-assoc}
+use mathlib.Core.List.{List, _++_}
 use native.Mathlib.Numerals.{add-one}
 use native.Mathlib.Omega.{arith}
 use lib.Dec.{lit≤}
 use lib.ListN.{length, take, drop, length-drop}
-use lib.Seq.{take-append-add, drop-append-add, length-take-le}
+use lib.Seq.{drop-append-add, length-take-le}
 use Rattle.rules.specs.Octets.{front}
 use Rattle.rules.specs.Endpoints.{forgotten, idle}
 use Rattle.rules.specs.Saved.{recordRoom, endpointIn, headOf, storeEnd, endsIn, storeEnds}
 use Rattle.rules.proofs.SavedReads.{end-length}
 use Rattle.octets.specs.Patch.{patch}
-use Rattle.octets.proofs.Patches.{lent-front}
+use Rattle.octets.proofs.Patches.{patch-past, lent-front}
 use Rattle.saved.specs.Records.{loaded, headOctets, recordAt}
 use Rattle.saved.specs.Moved.{forgottenHead}
 use Rattle.saved.specs.declared.records.Endpoint.{Endpoint as Head}
 use Rattle.links.specs.Events.{allIdle}
-
--- a write behind the first octets
-patch-behind : (x y s : List ℕ) (at : ℕ) → patch (length x + at) s (x ++ y) ≡ x ++ patch at s y
-unfolding patch
-patch-behind x y s at =
-    let e : length x + at + length s ≡ length x + (at + length s) = omega arith in
-    ap₂ (λ (a b : List ℕ). a ++ (s ++ b)) (take-append-add x y at)
-      (ap (λ (k : ℕ). drop k (x ++ y)) e ∙ drop-append-add x y (at + length s))
-    ∙ append-assoc x (take at y) (s ++ drop (at + length s) y)
 
 -- the head of an idle record, as the definitions and as the code have it
 idle-record : (r : List ℕ) → storeEnd (forgotten (endpointIn r)) r ≡ front (headOctets (forgottenHead (loaded r))) r
@@ -57,7 +48,7 @@ one-idle (suc i) l h =
     let behind : recordAt (suc i) (x ++ y) ≡ recordAt i y =
           ap (take recordRoom) (ap (λ (k : ℕ). drop k (x ++ y)) at ∙ drop-append-add x y (i * recordRoom)) in
     ap₂ (λ (k : ℕ) (r : List ℕ). patch k (headOctets (forgottenHead (loaded r))) (x ++ y)) at behind
-    ∙ patch-behind x y (headOctets (forgottenHead (loaded (recordAt i y)))) (i * recordRoom)
+    ∙ patch-past x y (headOctets (forgottenHead (loaded (recordAt i y)))) (i * recordRoom)
     ∙ ap (λ (z : List ℕ). x ++ z) (one-idle i (drop recordRoom l) (simp length-drop (omega arith)))
 
 -- a turn, from what the calls answer

@@ -1,35 +1,15 @@
 // Link events over the records of a saved connection.
-use rules::Channel;
 use rules::OurSeid;
 use rules::Place;
+use saved::tests::is_awaited;
+use saved::tests::is_up;
 
 ghost use mathlib.Core.Path.{_≡_};
 ghost use Prim.Native.Nat.{ℕ};
 ghost use lib.ListN.{length};
 ghost use Rattle.rules.specs.Book.{bookNumber, bookOf};
-ghost use Rattle.rules.specs.Endpoints.{isAwaited, isUp};
 ghost use Rattle.saved.specs.Held.{Held};
 ghost use Rattle.links.specs.Events.{Turned, upped, downed, allIdle};
-
-fn is_awaited(channel: Channel) -> bool
-    ensures { λ r. ⌜ r ≡ isAwaited channel ⌝ }
-{
-    match channel {
-        Channel::Absent => false,
-        Channel::Awaited => true,
-        Channel::Up => false,
-    }
-}
-
-fn is_up(channel: Channel) -> bool
-    ensures { λ r. ⌜ r ≡ isUp channel ⌝ }
-{
-    match channel {
-        Channel::Absent => false,
-        Channel::Awaited => false,
-        Channel::Up => true,
-    }
-}
 
 // Channel up, over `count` records: the awaiting endpoint gets it, else 10.
 pub fn up(records: &mut [u8], count: usize) -> u8
@@ -41,7 +21,7 @@ pub fn up(records: &mut [u8], count: usize) -> u8
         let e = saved::records::get(records, i);
         let channel = e.channel;
         if is_awaited(channel) {
-            saved::records::set(records, i, saved::moves::up(e));
+            saved::records::set(records, i, saved::lent::turned(e, true));
             return 0;
         }
         i += 1;
@@ -67,7 +47,7 @@ pub fn down(book: &[u8], records: &mut [u8], seid: OurSeid) -> u8
             let e = saved::records::get(records, index);
             let channel = e.channel;
             if is_up(channel) {
-                saved::records::set(records, index, saved::moves::forgotten(e));
+                saved::records::set(records, index, saved::lent::turned(e, false));
                 return 0;
             }
             10

@@ -1,15 +1,14 @@
 -- Categories and their numbers. One proof goes through the numbers, `number-back`; what follows goes by cases on the category.
 use Prim.Native.Nat.{ℕ, zero, suc, _≤_, _<_}
 use mathlib.Core.Path.{_≡_, refl, sym, ap, _∙_}
-use mathlib.Core.List.{[], _∷_}
 use mathlib.Core.Bool.{false}
 use native.Mathlib.Omega.{arith}
-use lib.ListN.{List·getD-eq-default}
 use lib.Dec.{leb, eqb}
 use borrow.Author.Tests.{leb-true, leb-false, eqb-true, eqb-false, ne-eqb}
 use Rattle.rules.specs.Elements.{Category, categoryOf, transport, reporting, recovery, protection, compression, multiplexing}
 use Rattle.rules.specs.Elements.{codec, delaying, strange, isStrange}
 use Rattle.rules.proofs.Tests.{Told?, passed, failed, told, clash}
+use Rattle.rules.proofs.AlikeStep.{above-is-strange}
 
 -- what is told of a category, at a number that is known
 pub at-key : {A : Type 0} (f : Category → A) {c k : ℕ} → c ≡ k → f (categoryOf k) ≡ f (categoryOf c)
@@ -52,13 +51,6 @@ strange-zero codec = refl
 strange-zero delaying = refl
 strange-zero strange = refl
 
-pub above-strange : (c : ℕ) → 8 < c → categoryOf c ≡ strange
-unfolding categoryOf
-above-strange c h =
-    List·getD-eq-default
-      (strange ∷ transport ∷ reporting ∷ recovery ∷ protection ∷ compression ∷ multiplexing ∷ codec ∷ delaying ∷ [])
-      strange h
-
 pub known-there : (c : ℕ) → (c ≡ 0 → ⊥) → c ≤ 8 → isStrange (categoryOf c) ≡ false
 known-there c f h = strange-zero (categoryOf c) ∙ ap (λ n. eqb n 0) (number-back c h) ∙ ne-eqb c 0 f
 
@@ -69,7 +61,7 @@ known-low c e = go (told (leb c 8))
   where
     go : Told? (leb c 8) → c ≤ 8
     go (passed t) = leb-true c 8 t
-    go (failed t) = clash (ap isStrange (above-strange c (leb-false c 8 t))) e
+    go (failed t) = clash (ap isStrange (above-is-strange c (leb-false c 8 t))) e
 
 pub known-number : (c : ℕ) → isStrange (categoryOf c) ≡ false → numberOf (categoryOf c) ≡ c
 known-number c e = number-back c (known-low c e)
@@ -97,4 +89,4 @@ other-strange c h = go (told (eqb c 0))
   where
     go : Told? (eqb c 0) → categoryOf c ≡ strange
     go (passed t) = ap categoryOf (eqb-true c 0 t)
-    go (failed t) = above-strange c (none-above 8 c h (eqb-false c 0 t))
+    go (failed t) = above-is-strange c (none-above 8 c h (eqb-false c 0 t))

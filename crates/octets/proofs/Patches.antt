@@ -3,10 +3,12 @@
 use Prim.Native.Nat.{ℕ, zero, suc, _+_, _-_, _≤_}
 use mathlib.Core.Path.{_≡_, refl, sym, ap, ap₂, _∙_, subst}
 use mathlib.Core.List.{List, [], _∷_, _++_, append-assoc}
-use native.Mathlib.Nat.{zero-add}
+use native.Mathlib.Nat.{zero-add, add-zero}
+use native.Mathlib.Numerals.{add-one}
 use native.Mathlib.Omega.{arith}
-use lib.ListN.{length, take, drop, length-append, length-take, length-drop, take-append-drop}
-use lib.Seq.{take-at, drop-at, length-take-le, drop-drop, take-take, take-append-le, drop-append-le, drop-append-add, take-nil}
+use lib.ListN.{length, take, drop, set, length-append, length-take, length-drop, take-append-drop}
+use lib.Seq.{take-at, drop-at, length-take-le, drop-drop, take-take, take-append-le, drop-append-le, take-append-add}
+use lib.Seq.{drop-append-add, take-nil, set-split, set-at}
 use Rattle.rules.specs.Octets.{front}
 use Rattle.octets.specs.Patch.{patch, part}
 
@@ -34,6 +36,10 @@ behind-split d at n =
 pub length-patch : (at : ℕ) (s d : List ℕ) → at + length s ≤ length d → length (patch at s d) ≡ length d
 unfolding patch
 length-patch at s d h = simp (length-append, length-take, length-drop) (omega arith)
+
+pub part-length : (from size : ℕ) (d : List ℕ) → from + size ≤ length d → length (part from size d) ≡ size
+unfolding part
+part-length from size d h = length-take-le size (drop from d) (simp length-drop (omega arith))
 
 -- a patched part reads back
 pub part-patch : (at : ℕ) (s d : List ℕ) → at + length s ≤ length d → part at (length s) (patch at s d) ≡ s
@@ -135,3 +141,56 @@ lent-front at k s d h =
     ap (λ (x : List ℕ). take at d ++ x)
       (append-assoc s (drop (length s) (take k (drop at d))) (drop k (drop at d))
        ∙ ap (λ (x : List ℕ). s ++ x) (rest-joined (length s) k (drop at d) h ∙ drop-drop (length s) at d))
+
+-- ---- Patches one after the other
+
+-- nothing written
+pub patch-none : (at : ℕ) (d : List ℕ) → d ≡ patch at [] d
+unfolding patch
+patch-none at d = rw add-zero (sym (take-append-drop at d))
+
+-- a second write that begins where the first ends
+pub patch-append : (at : ℕ) (s t d : List ℕ) → at + length s + length t ≤ length d
+  → patch (at + length s) t (patch at s d) ≡ patch at (s ++ t) d
+unfolding patch
+patch-append at s t d h =
+    let a = take at d in
+    let z = drop (at + length s) d in
+    let m = take (length t) z in
+    let e : at + length s + length t ≡ at + length (s ++ t) = simp length-append (omega arith) in
+    let split : a ++ (s ++ z) ≡ (a ++ s) ++ (m ++ drop (length t) z) =
+          ap (λ (x : List ℕ). a ++ (s ++ x)) (sym (take-append-drop (length t) z))
+          ∙ sym (append-assoc a s (m ++ drop (length t) z)) in
+    ap (patch (at + length s) t) split
+    ∙ patch-split (a ++ s) m (drop (length t) z) t (at + length s) (simp (length-append, length-take) (omega arith))
+        (simp (length-take, length-drop) (omega arith))
+    ∙ append-assoc a s (t ++ drop (length t) z)
+    ∙ ap (λ (x : List ℕ). a ++ (s ++ (t ++ x))) (drop-drop (length t) (at + length s) d ∙ ap (λ (n : ℕ). drop n d) e)
+    ∙ ap (λ (x : List ℕ). a ++ x) (sym (append-assoc s t (drop (at + length (s ++ t)) d)))
+
+-- an octet, and a write behind it
+pub patch-behind : (at x : ℕ) (s d : List ℕ) → at + 1 + length s ≤ length d → patch (at + 1) s (set d at x) ≡ patch at (x ∷ s) d
+unfolding patch
+patch-behind at x s d h =
+    ap (patch (at + 1) s) (set-split d at x (omega arith) ∙ ap (λ (n : ℕ). take at d ++ x ∷ drop n d) (sym (add-one at)))
+    ∙ patch-append at (x ∷ []) s d h
+
+-- the third octet written anew
+pub patch-third : (at x y m n : ℕ) (s d : List ℕ) → at ≤ length d
+  → set (patch at (x ∷ y ∷ m ∷ s) d) (at + 2) n ≡ patch at (x ∷ y ∷ n ∷ s) d
+unfolding patch
+patch-third at x y m n s d h =
+    let a = take at d in
+    let z = drop (at + suc (suc (suc (length s)))) d in
+    ap (λ (l : List ℕ). set l (at + 2) n) (sym (append-assoc a (x ∷ y ∷ []) (m ∷ (s ++ z))))
+    ∙ set-at (a ++ x ∷ y ∷ []) m (s ++ z) n (at + 2) (simp (length-append, length-take) (omega arith))
+    ∙ append-assoc a (x ∷ y ∷ []) (n ∷ (s ++ z))
+
+-- a write behind the first octets of an area leaves those
+pub patch-past : (x y s : List ℕ) (at : ℕ) → patch (length x + at) s (x ++ y) ≡ x ++ patch at s y
+unfolding patch
+patch-past x y s at =
+    let e : length x + at + length s ≡ length x + (at + length s) = omega arith in
+    ap₂ (λ (a b : List ℕ). a ++ (s ++ b)) (take-append-add x y at)
+      (ap (λ (k : ℕ). drop k (x ++ y)) e ∙ drop-append-add x y (at + length s))
+    ∙ append-assoc x (take at y) (s ++ drop (at + length s) y)

@@ -1,6 +1,6 @@
 -- Books alike answer alike: an entry stands at the same place in both, what is looked up of it is the same, and category 8 is
 -- looked up only by the commands that use delay reporting.
-use Prim.Native.Nat.{ℕ, zero, suc, _≤_}
+use Prim.Native.Nat.{ℕ, zero, suc, _≤_, _<_}
 use mathlib.Core.Path.{_≡_, refl, sym, ap, ap₂, _∙_, subst}
 use mathlib.Core.List.{List, [], _∷_}
 use mathlib.Core.Bool.{Bool, true, false, not, _&&_, _||_}
@@ -89,7 +89,7 @@ alike-offered n n′ e c v low =
 passes8 : Asked → Item → Bool
 passes8 asked i = fixed asked delaying || not (isOf 8 i)
 
-above-is-strange : (c : ℕ) → 9 ≤ c → categoryOf c ≡ strange
+pub above-is-strange : (c : ℕ) → 8 < c → categoryOf c ≡ strange
 unfolding categoryOf
 above-is-strange c high =
     List·getD-eq-default

@@ -24,7 +24,7 @@ use Rattle.rules.specs.declared.Delay.the-variants.{Unreported, Reported
 use Rattle.rules.specs.declared.Event.{Event}
 use Rattle.rules.proofs.Tests.{told}
 
-nothing-written : (area : List ℕ) → front [] area ≡ area
+pub nothing-written : (area : List ℕ) → front [] area ≡ area
 unfolding front
 nothing-written [] = refl
 nothing-written (x ∷ area) = refl

@@ -13,7 +13,7 @@ use lib.Seq.{length-take-le, take-append-seam, take-at, drop-at, drop-drop, drop
 use lib.Seq.{length-front as length-joined}
 use lib.Dec.{leb, ltb, eqb, lit<, lit≤}
 use lib.Arith.{digits-div, digits-mod}
-use borrow.Author.Tests.{leb-true, le-leb, ltb-true, eqb-true}
+use borrow.Author.Tests.{leb-true, le-leb, ltb-true, lt-ltb, eqb-true}
 use Rattle.rules.specs.Octets.{octetsIn, if_then_else_, each-of, front}
 use Rattle.rules.specs.Book.{bookOf}
 use Rattle.rules.specs.Packets.{Gathering, longest}
@@ -283,6 +283,13 @@ unfolding each-of
 octet-at [] i e = lit< tt
 octet-at (o ∷ l) zero e = ltb-true o 256 (and-l (ltb o 256) (octetsIn l) e)
 octet-at (o ∷ l) (suc i) e = octet-at l i (and-r (ltb o 256) (octetsIn l) e)
+
+-- and the other way: a list whose places hold octets
+pub octets-known : (l : List ℕ) → ((i : ℕ) → getD l i 0 < 256) → octetsIn l ≡ true
+unfolding each-of
+octets-known [] h = refl
+octets-known (o ∷ l) h =
+    and-both (ltb o 256) (octetsIn l) (lt-ltb o 256 (h 0)) (octets-known l (λ i. h (suc i)))
 
 pub octets-take : (n : ℕ) (l : List ℕ) → octetsIn l ≡ true → octetsIn (take n l) ≡ true
 unfolding each-of

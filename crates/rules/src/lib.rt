@@ -95,3 +95,20 @@ pub struct Said {
     pub kind: u8,
     pub length: usize,
 }
+
+// What the host is told of a packet: a number, and of the reply its label, message type (0 silence, 1 general reject, 2 accept,
+// 3 reject), signal and length.
+pub struct Told {
+    pub number: u8,
+    pub label: u8,
+    pub kind: u8,
+    pub signal: u8,
+    pub length: usize,
+}
+
+// What the host is told of a delay: a number, whether one was reported, and tenths of a millisecond.
+pub struct Heard {
+    pub number: u8,
+    pub reported: bool,
+    pub tenths: u16,
+}

@@ -1,2 +1,4 @@
+mod HeadCells
+pub mod Configs
 pub mod Heads
 pub mod OneStore

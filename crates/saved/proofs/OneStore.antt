@@ -7,7 +7,7 @@ use native.Mathlib.Nat.{mul-le-mul-right}
 use native.Mathlib.Omega.{arith}
 use borrow.Author.Tests.{leb-true}
 use lib.Dec.{lit≤}
-use lib.ListN.{length, take, drop, getD, set, length-append, length-take, length-drop, take-append-drop}
+use lib.ListN.{length, take, drop, getD, set, length-append, take-append-drop}
 use lib.Seq.{drop-drop}
 use Rattle.rules.specs.Octets.{front}
 use Rattle.rules.specs.Endpoints.{endAt}
@@ -15,12 +15,13 @@ use Rattle.rules.specs.Saved.{recordRoom, endpointIn, headOf, storeEnd, endsIn,
 use Rattle.rules.specs.Saved.{delayTenths, recordRight, recordsRight}
 use Rattle.rules.proofs.OneRecord.{end-at, store-one}
 use Rattle.octets.specs.Patch.{patch, part}
-use Rattle.octets.proofs.Patches.{lent-front, part-take}
+use Rattle.octets.proofs.Patches.{lent-front}
 use Rattle.rules.proofs.Tests.{and-l, and-r}
 use Rattle.rules.proofs.SavedReads.{drop-first}
 use Rattle.saved.specs.Records.{loaded, endpointOf, headOctets, recordAt, configAt}
 use Rattle.saved.specs.Held.{Held}
 use Rattle.saved.specs.declared.records.Endpoint.{Endpoint as Head}
+use Rattle.saved.proofs.Configs.{config-length, config-there}
 
 -- the octets of an endpoint's head, as the definitions and as the code have them
 head-same : (h : Head) (c : List ℕ) → length c ≡ h .length → headOf (endpointOf h c) ≡ headOctets h
@@ -100,34 +101,23 @@ unfolding recordRight
 length-right r e = leb-true (getD r 7 0) 64 (search (and-l, and-r))
 
 module _ (n i : ℕ) (l : List ℕ) (inside : i < n) (held : Held n l) where
-  record-long : length (recordAt i l) ≡ recordRoom
-  record-long = simp (length-take, length-drop) (omega (arith, held .room, mul-le-mul-right recordRoom inside))
+  -- a record's place has room
+  pub record-inside : (i + 1) * recordRoom ≤ length l
+  record-inside = omega (arith, held .room, mul-le-mul-right recordRoom inside)
 
-  pub config-short : getD (recordAt i l) 7 0 ≤ 64
-  config-short = length-right (recordAt i l) (record-right n i l inside (held .right))
-
-  pub config-length : length (configAt i l) ≡ loaded (recordAt i l) .length
-  unfolding configAt loaded
-  config-length = simp (length-take, length-drop) (omega (arith, record-long, config-short))
-
-  config-short-loaded : loaded (recordAt i l) .length ≤ 64
+  length-told : loaded (recordAt i l) .length ≤ 64
   unfolding loaded
-  config-short-loaded = config-short
-
-  -- the configuration's octets, in the whole area
-  config-there : configAt i l ≡ take (length (configAt i l)) (drop (i * recordRoom + 8) l)
-  unfolding configAt loaded part
-  config-there =
-      let k = getD (recordAt i l) 7 0 in
-      part-take 8 k recordRoom (drop (i * recordRoom) l) (omega (arith, config-short))
-      ∙ ap₂ take (sym config-length) (drop-drop 8 (i * recordRoom) l)
+  length-told = length-right (recordAt i l) (record-right n i l inside (held .right))
 
   pub head-moved : (h : Head) → h .length ≡ loaded (recordAt i l) .length
     → patch (i * recordRoom) (headOctets h) l ≡ storeEnds (set (endsIn n l) i (endpointOf h (configAt i l))) l
-  unfolding headOctets
+  unfolding headOctets part
   head-moved h e =
-      head-alone (i * recordRoom) (headOctets h) (configAt i l) l config-there
-      ∙ stored-one n i l h (configAt i l) inside held (config-length ∙ sym e) (omega (arith, config-length, config-short-loaded))
+      let size = config-length i l record-inside length-told in
+      let there = config-there i l record-inside length-told in
+      head-alone (i * recordRoom) (headOctets h) (configAt i l) l
+        (there ∙ ap (λ (k : ℕ). take k (drop (i * recordRoom + 8) l)) (sym size))
+      ∙ stored-one n i l h (configAt i l) inside held (size ∙ sym e) (omega (arith, size, length-told))
 
   pub head-emptied : (h : Head) → h .length ≡ 0
     → patch (i * recordRoom) (headOctets h) l ≡ storeEnds (set (endsIn n l) i (endpointOf h [])) l

@@ -1,5 +1,6 @@
 -- A record's head after each move of its endpoint.
 use Prim.Native.Nat.{ℕ}
+use mathlib.Core.Bool.{Bool, true, false}
 use Rattle.rules.specs.declared.FarSeid.{FarSeid}
 use Rattle.rules.specs.declared.State.{State}
 use Rattle.rules.specs.declared.State.the-variants.{Idle, Configured, Open}
@@ -30,6 +31,11 @@ leavingHead s h = leavingBy (h .channel) s h
 
 abbrev pub upHead : Head → Head
 upHead h = record { seid = h .seid; state = h .state; channel = Up; far = h .far; delay = h .delay; length = h .length }
+
+-- By whether the channel came up or went down.
+abbrev pub turnedHead : Bool → Head → Head
+turnedHead true h = upHead h
+turnedHead false h = forgottenHead h
 
 abbrev pub delayedHead : ℕ → Head → Head
 delayedHead tenths h =

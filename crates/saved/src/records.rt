@@ -12,7 +12,7 @@ ghost use lib.ListN.{length, drop};
 ghost use Rattle.rules.specs.Saved.{stateIn, stateOctet, channelIn, channelOctet, delayIn, delayMark, delayTenths, pairIn};
 ghost use Rattle.rules.specs.Saved.{recordRoom};
 ghost use Rattle.octets.specs.Patch.{patch};
-ghost use Rattle.saved.specs.Records.{loaded, headOctets, recordAt};
+ghost use Rattle.saved.specs.Records.{loaded, headOctets, recordAt, configAt};
 
 // A record's head: what is there of the endpoint but the octets of its configuration, of which it has the length.
 pub struct Endpoint {
@@ -149,4 +149,13 @@ pub fn set(records: &mut [u8], i: usize, e: Endpoint)
 {
     let from = i * 80;
     put_head(&mut records[from..from + 80], e);
+}
+
+// The configuration of record i.
+pub fn config(records: &[u8], i: usize) -> &[u8]
+    requires { ⌜ ((i + 1) * recordRoom ≤ length (now records)) × (length (configAt i (now records)) ≤ 64) ⌝ }
+    ensures { λ r. ⌜ now r ≡ configAt i (now (records .entry)) ⌝ }
+{
+    let from = i * 80;
+    octets::part(records, from + 8, records[from + 7] as usize)
 }

@@ -6,8 +6,7 @@ use mathlib.Core.List.{List, []}
 use mathlib.Core.Bool.{true, false}
 use native.Mathlib.Nat.{le-trans}
 use native.Mathlib.Omega.{arith}
-use lib.ListN.{length, take, drop, getD, length-take, length-drop}
-use lib.Seq.{length-take-le, take-add, take-take, drop-at, drop-drop}
+use lib.ListN.{length, take, drop}
 use borrow.Author.Tests.{eqb-true}
 use Rattle.rules.specs.Elements.{items, reconfiguring, faultIn, firstFault, restored, couldStore}
 use Rattle.rules.specs.Book.{Entry, bookOf}
@@ -32,29 +31,11 @@ use Rattle.saved.specs.Records.{loaded, endpointOf, recordAt, configAt}
 use Rattle.saved.specs.Moved.{reconfiguredHead}
 use Rattle.saved.specs.Serves.{Serves}
 use Rattle.saved.specs.declared.records.Endpoint.{Endpoint as Head}
-use Rattle.sets.specs.Does.{endsOf, Does, Names, Renews, keptOctets}
+use Rattle.saved.proofs.Configs.{config-told, config-length}
+use Rattle.replies.specs.Obeys.{endsOf, Obeys}
+use Rattle.sets.specs.Kept.{Names, Renews, keptOctets}
 use Rattle.sets.proofs.Doings.{answered, fault-answered, Refuses, refused, moved, entry, met, few, there}
 use Rattle.sets.proofs.Doings.{end-here, state-here}
-
--- ---- The configuration of a record
-
-record-behind : (x : List ℕ) → 8 ≤ length x → drop 8 (take recordRoom x) ≡ take 72 (drop 8 x)
-record-behind x h =
-    ap (drop 8) (take-add 8 72 x) ∙ drop-at (take 8 x) (take 72 (drop 8 x)) 8 (length-take-le 8 x h)
-
--- as it is read out of the area
-config-part : (i n : ℕ) (l : List ℕ) → (i + 1) * recordRoom ≤ length l → n ≤ 64
-  → take n (drop 8 (recordAt i l)) ≡ part (i * 80 + 8) n l
-unfolding part
-config-part i n l inside short =
-    let behind : 8 ≤ length (drop (i * 80) l) = simp length-drop (omega arith) in
-    ap (take n) (record-behind (drop (i * 80) l) behind)
-    ∙ take-take n 72 (drop 8 (drop (i * 80) l)) (omega arith)
-    ∙ ap (take n) (drop-drop 8 (i * 80) l)
-
--- one that is no longer than 64 octets has the length that the record tells
-config-told : (i n : ℕ) (l : List ℕ) → (i + 1) * recordRoom ≤ length l → length (take n (drop 8 (recordAt i l))) ≤ 64 → n ≤ 64
-config-told i n l inside short = omega (arith, simp (length-take, length-drop) at short)
 
 -- ---- What is written
 
@@ -62,26 +43,21 @@ module _ {caps records payload : List ℕ} {i : ℕ} {h : Head} {m : Marks} (r :
   abbrev anew : List ℕ
   anew = restored (items (drop 1 payload)) (items (configAt i records))
 
-  size-told : h .length ≡ getD (recordAt i records) 7 0
-  unfolding loaded
-  size-told = ap (λ (x : Head). x .length) (r .head)
-
   config-short : length (configAt i records) ≤ 64
   config-short = le-trans (could-short caps (configAt i records) (r .could)) (r .few)
 
+  -- what is asked where the configuration is read
+  pub renew-reads : ((i + 1) * recordRoom ≤ length records) × (length (configAt i records) ≤ 64)
+  renew-reads = (r .inside, config-short)
+
+  size-told : h .length ≡ length (configAt i records)
+  size-told =
+      ap (λ (x : Head). x .length) (r .head)
+      ∙ sym (config-length i records (r .inside) (config-told i records (r .inside) config-short))
+
   -- the length fits the copy
   pub size-short : h .length ≤ 64
-  unfolding configAt
-  size-short = omega (arith, size-told, config-told i (getD (recordAt i records) 7 0) records (r .inside) config-short)
-
-  pub part-room : i * 80 + 8 + h .length ≤ length records
-  part-room = omega (arith, r .inside, size-short)
-
-  config-same : configAt i records ≡ part (i * 80 + 8) (h .length) records
-  unfolding configAt
-  config-same =
-      ap (λ (n : ℕ). take n (drop 8 (recordAt i records))) (sym size-told)
-      ∙ config-part i (h .length) records (r .inside) size-short
+  size-short = omega (arith, size-told, config-short)
 
   -- no fault, with no category seen before
   fine : faultIn reconfiguring (items caps) [] (items (drop 1 payload)) .code ≡ 0
@@ -95,21 +71,15 @@ module _ {caps records payload : List ℕ} {i : ℕ} {h : Head} {m : Marks} (r :
         (r .few)
 
   -- what is stored, copied
-  module _ {p : List ℕ} (q : p ≡ part (i * 80 + 8) (h .length) records) where
-    part-size : length p ≡ h .length
-    unfolding part
-    part-size =
-        let room : h .length ≤ length (drop (i * 80 + 8) records) = simp length-drop (omega (arith, r .inside, size-short)) in
-        ap length q ∙ length-take-le (h .length) (drop (i * 80 + 8) records) room
-
+  module _ {p : List ℕ} (q : p ≡ configAt i records) where
     pub copy-fits : 0 + length p ≤ 64
-    copy-fits = omega (arith, part-size, size-short)
+    copy-fits = omega (arith, ap length q, config-short)
 
     pub copied : (zeros : List ℕ) {copy : List ℕ} → length zeros ≡ 64 → copy ≡ patch 0 p zeros
       → take (h .length) copy ≡ configAt i records
     unfolding part
     copied zeros n e =
-        ap₂ take (sym part-size) e ∙ part-patch 0 p zeros (omega (arith, copy-fits)) ∙ q ∙ sym config-same
+        ap₂ take (size-told ∙ ap length (sym q)) e ∙ part-patch 0 p zeros (omega (arith, copy-fits)) ∙ q
 
   module _ {old : List ℕ} (same : old ≡ configAt i records) where
     pub old-short : length old ≤ 65535
@@ -171,7 +141,7 @@ anew-as h old config = refl
 
 -- ---- What is done at the endpoint that the payload names
 
-module _ {book payload records reply : List ℕ} {i from size : ℕ} (serves : Serves book records payload reply)
+module _ {book records payload reply : List ℕ} {i from size : ℕ} (serves : Serves book records payload reply)
     (names : Names book payload i from size) {h : Head} (here : h ≡ loaded (recordAt i records)) where
   -- what the check of the elements finds
   abbrev Finds : Walked → Type 0
@@ -205,14 +175,14 @@ module _ {book payload records reply : List ℕ} {i from size : ℕ} (serves : S
     outcome = there serves names 3 reconfigureAt long
 
     pub idle-refused : isIdle (h .state) ≡ true
-      → {said : Said} {reply′ : List ℕ} → Refuses reconfigure book payload records reply 0 0x14 said reply′
+      → {said : Said} {reply′ : List ℕ} → Refuses reconfigure book records payload reply 0 0x14 said reply′
     idle-refused idle =
         refused reconfigure serves 0 0x14
           (outcome ∙ anew-idle (endsOf book records) payload i (entry serves names) (state-here serves names here isIdle idle))
 
     module _ (busy : isIdle (h .state) ≡ false) where
       pub closed-refused : isOpen (h .state) ≡ false
-        → {said : Said} {reply′ : List ℕ} → Refuses reconfigure book payload records reply 0 0x31 said reply′
+        → {said : Said} {reply′ : List ℕ} → Refuses reconfigure book records payload reply 0 0x31 said reply′
       closed-refused closed =
           refused reconfigure serves 0 0x31
             (outcome
@@ -233,13 +203,13 @@ module _ {book payload records reply : List ℕ} {i from size : ℕ} (serves : S
                 (state-here serves names here isOpen opened) e
 
         pub fault-refused : {c code : ℕ} → Finds (Failed c code)
-          → {said : Said} {reply′ : List ℕ} → Refuses reconfigure book payload records reply c code said reply′
+          → {said : Said} {reply′ : List ℕ} → Refuses reconfigure book records payload reply c code said reply′
         fault-refused {c} {code} e = refused reconfigure serves c code (checked e)
 
         pub anew-moves : {m : Marks} {said : Said} {records′ : List ℕ} → Finds (Clean m) → said ≡ saidOf (accept [])
           → records′
             ≡ patch (i * recordRoom) (keptOctets h (restored (items (drop 1 payload)) (items (configAt i records)))) records
-          → Does reconfigure book payload records reply said records′ reply
+          → Obeys reconfigure book records payload reply said records′ reply
         anew-moves e accepts wrote =
             let config = restored (items (drop 1 payload)) (items (configAt i records)) in
             moved reconfigure serves i h config (checked e)

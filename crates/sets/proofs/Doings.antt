@@ -10,13 +10,13 @@ use lib.Dec.{leb, eqb}
 use borrow.Author.Tests.{le-leb, lt-leb}
 use Rattle.rules.specs.Octets.{if_then_else_, front}
 use Rattle.rules.specs.Elements.{Fault}
-use Rattle.rules.specs.Book.{Entry, Book, bookOf, unknown, known, find}
+use Rattle.rules.specs.Book.{Entry, Book, bookOf}
 use Rattle.rules.specs.Walks.{walkedAs, placeIn}
 use Rattle.rules.specs.Endpoints.{Endpoint, Ends, endAt}
 use Rattle.rules.specs.Saved.{recordRoom}
-use Rattle.rules.specs.Commands.{accept, reject, Outcome, stays, moves, rejectElement, ourIn, foundOr, atEndpoint}
+use Rattle.rules.specs.Commands.{accept, reject, Outcome, stays, moves, rejectElement, ourIn, atEndpoint}
 use Rattle.rules.specs.Host.{payloadOf}
-use Rattle.rules.specs.Answers.{saidOf, did}
+use Rattle.rules.specs.Answers.{saidOf}
 use Rattle.rules.specs.declared.Said.{Said}
 use Rattle.rules.specs.declared.Marks.{Marks}
 use Rattle.rules.specs.declared.State.{State}
@@ -26,37 +26,22 @@ use Rattle.rules.specs.declared.Place.the-variants.{Unknown}
 use Rattle.rules.proofs.Tests.{Told?, told, passed, failed}
 use Rattle.rules.proofs.ShortReplies.{caps-short}
 use Rattle.octets.specs.Patch.{patch}
-use Rattle.octets.proofs.Patches.{patch-comm}
-use Rattle.configs.proofs.Writes.{patch-append}
+use Rattle.octets.proofs.Patches.{patch-comm, patch-append}
 use Rattle.book.proofs.Found.{entryBy}
 use Rattle.saved.specs.Records.{loaded, endpointOf, headOctets, recordAt, configAt}
 use Rattle.saved.specs.Moved.{reconfiguredHead}
 use Rattle.saved.specs.Serves.{Serves}
 use Rattle.saved.specs.declared.records.Endpoint.{Endpoint as Head}
 use Rattle.saved.proofs.OneStore.{stored-one}
-use Rattle.replies.proofs.Serving.{did-stay, did-move, Meets, meets, misses}
-use Rattle.sets.specs.Does.{endsOf, Does, Names, keptOctets}
+use Rattle.replies.specs.Obeys.{endsOf, Obeys}
+use Rattle.replies.proofs.Serving.{obeys-stay, obeys-move, Meets, meets, at-wrong, at-unknown, at-known}
+use Rattle.sets.specs.Kept.{Names, keptOctets}
 
 -- ---- The checks that both begin with, and the one of the elements
 
 -- a command whose payload has at least so many octets and names an endpoint in the first
 abbrev pub commandAt : ℕ → (Ends → List ℕ → ℕ → Entry → Outcome) → Book → Ends → List ℕ → Outcome
 commandAt least on book ends p = atEndpoint (rejectElement 0) (leb least (length p)) book ends p (on ends p)
-
-module _ (least : ℕ) (on : Ends → List ℕ → ℕ → Entry → Outcome) (book : Book) (ends : Ends) (p : List ℕ) where
-  at-short : length p < least → commandAt least on book ends p ≡ stays ends (rejectElement 0 0x11)
-  unfolding atEndpoint
-  at-short h = rw (lt-leb least (length p) h)
-
-  at-unknown : least ≤ length p → find (ourIn (getD p 0 0)) book ≡ unknown
-    → commandAt least on book ends p ≡ stays ends (rejectElement 0 0x12)
-  unfolding atEndpoint foundOr
-  at-unknown h f = rw (le-leb least (length p) h, f)
-
-  at-known : (i : ℕ) (n : Entry) → least ≤ length p → find (ourIn (getD p 0 0)) book ≡ known i n
-    → commandAt least on book ends p ≡ on ends p i n
-  unfolding atEndpoint foundOr
-  at-known i n h f = rw (le-leb least (length p) h, f)
 
 -- what is answered by what the check of the elements finds: its fault, or where there is none the outcome o
 abbrev pub answered : Ends → Outcome → Walked → Outcome
@@ -78,20 +63,17 @@ fault-answered f m ends o e = go (told (eqb (f .code) 0)) ∙ ap (answered ends 
 
 -- a reject of two octets leaves every octet of the records
 abbrev pub Refuses : (Book → Ends → List ℕ → Outcome) → List ℕ → List ℕ → List ℕ → List ℕ → ℕ → ℕ → Said → List ℕ → Type 0
-Refuses command book payload records reply c code said reply′ =
+Refuses command book records payload reply c code said reply′ =
     (said ≡ saidOf (reject (c ∷ code ∷ []))) × (reply′ ≡ front (c ∷ code ∷ []) reply)
-    → Does command book payload records reply said records reply′
+    → Obeys command book records payload reply said records reply′
 
-module _ (command : Book → Ends → List ℕ → Outcome) {book payload records reply : List ℕ}
+module _ (command : Book → Ends → List ℕ → Outcome) {book records payload reply : List ℕ}
     (serves : Serves book records payload reply) where
   pub refused : (c code : ℕ) {said : Said} {reply′ : List ℕ}
     → command (bookOf book) (endsOf book records) payload ≡ stays (endsOf book records) (rejectElement c code)
-    → Refuses command book payload records reply c code said reply′
+    → Refuses command book records payload reply c code said reply′
   unfolding rejectElement payloadOf
-  refused c code e wrote =
-      (λ j. record { said = wrote .0 j; records = records; reply = wrote .1 j })
-      ∙ sym (ap (λ o. did o records reply) e
-        ∙ did-stay (length (bookOf book)) records reply (rejectElement c code) (serves .held))
+  refused c code e wrote = obeys-stay command serves (rejectElement c code) e (wrote .0) (wrote .1)
 
   -- an endpoint is moved, and its record is written
   pub moved : (i : ℕ) (h : Head) (config : List ℕ) {e : Endpoint} {said : Said} {records′ : List ℕ}
@@ -99,15 +81,12 @@ module _ (command : Book → Ends → List ℕ → Outcome) {book payload record
     → endpointOf (reconfiguredHead (length config) h) config ≡ e
     → i < length (bookOf book) → length config ≤ 64 → said ≡ saidOf (accept [])
     → records′ ≡ patch (i * recordRoom) (keptOctets h config) records
-    → Does command book payload records reply said records′ reply
+    → Obeys command book records payload reply said records′ reply
   unfolding keptOctets
   moved i h config outcome same inside short accepts wrote =
-      let n = length (bookOf book) in
-      (λ j. record { said = accepts j; records = wrote j; reply = reply })
-      ∙ ap (λ (l : List ℕ). record { said = saidOf (accept []); records = l; reply = reply })
-          (stored-one n i records (reconfiguredHead (length config) h) config inside (serves .held) refl short)
-      ∙ sym (did-move n i records reply (endpointOf (reconfiguredHead (length config) h) config))
-      ∙ sym (ap (λ o. did o records reply) (outcome ∙ ap (moves (endsOf book records) i) (sym same)))
+      let h′ = reconfiguredHead (length config) h in
+      obeys-move command serves i (endpointOf h′ config) (outcome ∙ ap (moves (endsOf book records) i) (sym same)) accepts
+        (wrote ∙ stored-one (length (bookOf book)) i records h′ config inside (serves .held) refl short)
 
 -- ---- The configuration, and then the head before it
 
@@ -126,22 +105,23 @@ kept-by i h h′ config l b b′ n inside short wrote same set =
 
 -- ---- A payload that is too short, or names no endpoint
 
-module _ (least : ℕ) (on : Ends → List ℕ → ℕ → Entry → Outcome) {book payload records reply : List ℕ}
+module _ (least : ℕ) (on : Ends → List ℕ → ℕ → Entry → Outcome) {book records payload reply : List ℕ}
     (serves : Serves book records payload reply) where
   pub short-refused : length payload < least
-    → {said : Said} {reply′ : List ℕ} → Refuses (commandAt least on) book payload records reply 0 0x11 said reply′
+    → {said : Said} {reply′ : List ℕ} → Refuses (commandAt least on) book records payload reply 0 0x11 said reply′
   short-refused short =
-      refused (commandAt least on) serves 0 0x11 (at-short least on (bookOf book) (endsOf book records) payload short)
+      refused (commandAt least on) serves 0 0x11
+        (at-wrong (rejectElement 0) _ book (endsOf book records) payload _ (lt-leb least (length payload) short))
 
   pub unknown-refused : least ≤ length payload → placeIn (ourIn (getD payload 0 0)) book ≡ Unknown
-    → {said : Said} {reply′ : List ℕ} → Refuses (commandAt least on) book payload records reply 0 0x12 said reply′
+    → {said : Said} {reply′ : List ℕ} → Refuses (commandAt least on) book records payload reply 0 0x12 said reply′
   unknown-refused long e =
       refused (commandAt least on) serves 0 0x12
-        (at-unknown least on (bookOf book) (endsOf book records) payload long (misses (ourIn (getD payload 0 0)) book e))
+        (at-unknown (rejectElement 0) _ book (endsOf book records) payload _ (le-leb least (length payload) long) e)
 
 -- ---- The endpoint that the payload names
 
-module _ {book payload records reply : List ℕ} {i from size : ℕ} (serves : Serves book records payload reply)
+module _ {book records payload reply : List ℕ} {i from size : ℕ} (serves : Serves book records payload reply)
     (names : Names book payload i from size) where
   abbrev pub entry : Entry
   entry = entryBy (ourIn (getD payload 0 0)) book (names .kind) from size
@@ -155,7 +135,8 @@ module _ {book payload records reply : List ℕ} {i from size : ℕ} (serves : S
   -- what a command with a payload that is long enough comes to
   pub there : (least : ℕ) (on : Ends → List ℕ → ℕ → Entry → Outcome) → least ≤ length payload
     → commandAt least on (bookOf book) (endsOf book records) payload ≡ on (endsOf book records) payload i entry
-  there least on long = at-known least on (bookOf book) (endsOf book records) payload i entry long (met .found)
+  there least on long =
+      at-known (rejectElement 0) _ book (endsOf book records) payload _ (le-leb least (length payload) long) i entry (met .found)
 
   module _ {h : Head} (here : h ≡ loaded (recordAt i records)) where
     pub end-here : endAt (endsOf book records) i ≡ endpointOf h (configAt i records)

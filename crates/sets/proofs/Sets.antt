@@ -25,7 +25,8 @@ use Rattle.saved.specs.Records.{loaded, endpointOf, recordAt, configAt}
 use Rattle.saved.specs.Moved.{settledHead, reconfiguredHead}
 use Rattle.saved.specs.Serves.{Serves}
 use Rattle.saved.specs.declared.records.Endpoint.{Endpoint as Head}
-use Rattle.sets.specs.Does.{endsOf, Does, Names, keptOctets}
+use Rattle.replies.specs.Obeys.{endsOf, Obeys}
+use Rattle.sets.specs.Kept.{Names, keptOctets}
 use Rattle.sets.proofs.Doings.{answered, fault-answered, Refuses, refused, moved, entry, met, few, there}
 use Rattle.sets.proofs.Doings.{end-here, state-here}
 
@@ -63,7 +64,7 @@ settled-as h old config far = refl
 
 -- ---- What is done at the endpoint that the payload names
 
-module _ {book payload records reply : List ℕ} {i from size : ℕ} (serves : Serves book records payload reply)
+module _ {book records payload reply : List ℕ} {i from size : ℕ} (serves : Serves book records payload reply)
     (names : Names book payload i from size) where
   -- what the check of the elements finds
   abbrev Finds : Walked → Type 0
@@ -94,14 +95,14 @@ module _ {book payload records reply : List ℕ} {i from size : ℕ} (serves : S
     outcome = there serves names 2 setAt long
 
     pub busy-refused : isIdle (h .state) ≡ false
-      → {said : Said} {reply′ : List ℕ} → Refuses setConfiguration book payload records reply 0 0x13 said reply′
+      → {said : Said} {reply′ : List ℕ} → Refuses setConfiguration book records payload reply 0 0x13 said reply′
     busy-refused busy =
         refused setConfiguration serves 0 0x13
           (outcome ∙ set-busy (endsOf book records) payload i (entry serves names) (state-here serves names here isIdle busy))
 
     module _ (free : isIdle (h .state) ≡ true) where
       pub far-refused : farRight (farIn (getD payload 1 0)) ≡ false
-        → {said : Said} {reply′ : List ℕ} → Refuses setConfiguration book payload records reply 0 0x18 said reply′
+        → {said : Said} {reply′ : List ℕ} → Refuses setConfiguration book records payload reply 0 0x18 said reply′
       far-refused wrong =
           refused setConfiguration serves 0 0x18
             (outcome
@@ -119,13 +120,13 @@ module _ {book payload records reply : List ℕ} {i from size : ℕ} (serves : S
             ∙ set-checked (endsOf book records) payload i (entry serves names) (state-here serves names here isIdle free) right e
 
         pub fault-refused : {c code : ℕ} → Finds (Failed c code)
-          → {said : Said} {reply′ : List ℕ} → Refuses setConfiguration book payload records reply c code said reply′
+          → {said : Said} {reply′ : List ℕ} → Refuses setConfiguration book records payload reply c code said reply′
         fault-refused {c} {code} e = refused setConfiguration serves c code (checked e)
 
         pub set-moves : {m k : Marks} {h′ : Head} {said : Said} {records′ : List ℕ}
           → Finds (Clean m) → k ≡ noMarks → h′ ≡ settledHead (farIn (getD payload 1 0)) 0 h → said ≡ saidOf (accept [])
           → records′ ≡ patch (i * recordRoom) (keptOctets h′ (markedStore payload m payload k)) records
-          → Does setConfiguration book payload records reply said records′ reply
+          → Obeys setConfiguration book records payload reply said records′ reply
         set-moves e none same accepts wrote =
             let far = farIn (getD payload 1 0) in
             let config = stored (items (drop 2 payload)) in

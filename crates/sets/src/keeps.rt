@@ -11,7 +11,7 @@ ghost use lib.ListN.{length};
 ghost use Rattle.rules.specs.Saved.{recordRoom};
 ghost use Rattle.octets.specs.Patch.{patch};
 ghost use Rattle.configs.specs.Stores.{markedStore, MarksFit};
-ghost use Rattle.sets.specs.Does.{keptOctets};
+ghost use Rattle.sets.specs.Kept.{keptOctets};
 
 // Stores into record `index` the head and the configuration that the marks of the two lists pick.
 pub fn keep(records: &mut [u8], index: usize, head: Endpoint, new: &[u8], fresh: Marks, old: &[u8], left: Marks)

@@ -1,19 +1,18 @@
 // Reconfigure.
-use crate::checks::is_idle;
-use crate::checks::is_open;
 use crate::keeps::keep;
 use book::places::place;
-use lists::marks::none;
 use lists::walks::setting;
-use lists::walks::walk;
+use reader::renewed_elements;
 use rules::Marks;
 use rules::OurSeid;
 use rules::Place;
-use rules::Rule;
 use rules::Said;
 use rules::Walked;
+use saved::records::config;
 use saved::records::get;
 use saved::records::Endpoint;
+use saved::tests::is_idle;
+use saved::tests::is_open;
 
 ghost use mathlib.Core.Path.{_≡_};
 ghost use Prim.Native.Nat.{_*_, _≤_};
@@ -24,7 +23,8 @@ ghost use Rattle.rules.specs.Commands.{reconfigure as reconfiguring};
 ghost use Rattle.octets.specs.Patch.{patch};
 ghost use Rattle.saved.specs.Records.{configAt};
 ghost use Rattle.saved.specs.Serves.{Serves};
-ghost use Rattle.sets.specs.Does.{Does, Names, Renews, keptOctets};
+ghost use Rattle.replies.specs.Obeys.{Obeys};
+ghost use Rattle.sets.specs.Kept.{Names, Renews, keptOctets};
 
 // The elements are checked: they take the place of those of the stored configuration, or are added to them. What is stored is
 // copied first, as it is read while it is written anew.
@@ -37,7 +37,7 @@ fn renew(caps: &[u8], records: &mut [u8], payload: &[u8], index: usize, head: En
 {
     let mut copy = [0u8; 64];
     let size = head.length as usize;
-    octets::put(&mut copy, 0, octets::part(records, index * 80 + 8, size));
+    octets::put(&mut copy, 0, config(records, index));
     let old = &copy[..size];
     let walked = setting(caps, old, 0);
     match walked {
@@ -51,7 +51,7 @@ fn renew(caps: &[u8], records: &mut [u8], payload: &[u8], index: usize, head: En
 fn renew_at(book: &[u8], records: &mut [u8], payload: &[u8], reply: &mut [u8], index: usize, from: usize, size: usize) -> Said
     requires { ⌜ Serves (now book) (now records) (now payload) (now reply) × (3 ≤ length (now payload))
       × Names (now book) (now payload) index from size ⌝ }
-    ensures { λ r. ⌜ Does reconfiguring (now (book .entry)) (now (payload .entry)) (now (records .entry)) (now (reply .entry))
+    ensures { λ r. ⌜ Obeys reconfiguring (now (book .entry)) (now (records .entry)) (now (payload .entry)) (now (reply .entry))
       r (now (records .exit)) (now (reply .exit)) ⌝ }
 {
     let e = get(records, index);
@@ -63,7 +63,7 @@ fn renew_at(book: &[u8], records: &mut [u8], payload: &[u8], reply: &mut [u8], i
         return replies::rejected_for(reply, 0, 0x31);
     }
     let caps = octets::part(book, from, size);
-    let walked = walk(Rule::Reconfiguring, caps, payload, 1, none());
+    let walked = renewed_elements(caps, payload);
     match walked {
         Walked::Fault { category, code } => replies::rejected_for(reply, category, code),
         Walked::Clean(marks) => {
@@ -75,7 +75,7 @@ fn renew_at(book: &[u8], records: &mut [u8], payload: &[u8], reply: &mut [u8], i
 
 pub fn reconfigure(book: &[u8], records: &mut [u8], payload: &[u8], reply: &mut [u8]) -> Said
     requires { ⌜ Serves (now book) (now records) (now payload) (now reply) ⌝ }
-    ensures { λ r. ⌜ Does reconfiguring (now (book .entry)) (now (payload .entry)) (now (records .entry)) (now (reply .entry))
+    ensures { λ r. ⌜ Obeys reconfiguring (now (book .entry)) (now (records .entry)) (now (payload .entry)) (now (reply .entry))
       r (now (records .exit)) (now (reply .exit)) ⌝ }
 {
     if payload.len() < 3 {

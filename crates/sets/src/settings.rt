@@ -1,10 +1,8 @@
 // Set Configuration.
-use crate::checks::far_right;
-use crate::checks::is_idle;
 use crate::keeps::keep;
 use book::places::place;
 use lists::marks::none;
-use lists::walks::setting;
+use reader::set_elements;
 use rules::FarSeid;
 use rules::OurSeid;
 use rules::Place;
@@ -12,18 +10,21 @@ use rules::Said;
 use rules::Walked;
 use saved::moves::settled;
 use saved::records::get;
+use saved::tests::far_right;
+use saved::tests::is_idle;
 
 ghost use Prim.Native.Nat.{_≤_};
 ghost use lib.ListN.{length};
 ghost use Rattle.rules.specs.Commands.{setConfiguration};
 ghost use Rattle.saved.specs.Serves.{Serves};
-ghost use Rattle.sets.specs.Does.{Does, Names};
+ghost use Rattle.replies.specs.Obeys.{Obeys};
+ghost use Rattle.sets.specs.Kept.{Names};
 
 // The endpoint is known: it is entry `index` of the book, whose list is the `size` octets from `from` on.
 fn set_at(book: &[u8], records: &mut [u8], payload: &[u8], reply: &mut [u8], index: usize, from: usize, size: usize) -> Said
     requires { ⌜ Serves (now book) (now records) (now payload) (now reply) × (2 ≤ length (now payload))
       × Names (now book) (now payload) index from size ⌝ }
-    ensures { λ r. ⌜ Does setConfiguration (now (book .entry)) (now (payload .entry)) (now (records .entry)) (now (reply .entry))
+    ensures { λ r. ⌜ Obeys setConfiguration (now (book .entry)) (now (records .entry)) (now (payload .entry)) (now (reply .entry))
       r (now (records .exit)) (now (reply .exit)) ⌝ }
 {
     let e = get(records, index);
@@ -35,7 +36,7 @@ fn set_at(book: &[u8], records: &mut [u8], payload: &[u8], reply: &mut [u8], ind
     if !far_right(far) {
         return replies::rejected_for(reply, 0, 0x18);
     }
-    let walked = setting(octets::part(book, from, size), payload, 2);
+    let walked = set_elements(octets::part(book, from, size), payload);
     match walked {
         Walked::Fault { category, code } => replies::rejected_for(reply, category, code),
         Walked::Clean(marks) => {
@@ -48,7 +49,7 @@ fn set_at(book: &[u8], records: &mut [u8], payload: &[u8], reply: &mut [u8], ind
 
 pub fn set_configuration(book: &[u8], records: &mut [u8], payload: &[u8], reply: &mut [u8]) -> Said
     requires { ⌜ Serves (now book) (now records) (now payload) (now reply) ⌝ }
-    ensures { λ r. ⌜ Does setConfiguration (now (book .entry)) (now (payload .entry)) (now (records .entry)) (now (reply .entry))
+    ensures { λ r. ⌜ Obeys setConfiguration (now (book .entry)) (now (records .entry)) (now (payload .entry)) (now (reply .entry))
       r (now (records .exit)) (now (reply .exit)) ⌝ }
 {
     if payload.len() < 2 {

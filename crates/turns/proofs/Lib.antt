@@ -1,5 +1,4 @@
 pub mod HeadStored
 pub mod StoredOver
-pub mod Answering
 pub mod Leaving
 pub mod Turning

@@ -1,7 +1,6 @@
 -- Start and Suspend, turn by turn: the records show the endpoints that the definition has reached, and hold what storing those
 -- over the first records gives. So what is left of the listed SEIDs decides, and a stop leaves what was moved.
-use Prim.Native.Nat.{ℕ, suc, _+_, _*_, _/_, _≤_, _<_}
-use native.Mathlib.Nat.{mul-le-mul-right}
+use Prim.Native.Nat.{ℕ, _+_, _*_, _/_, _≤_, _<_}
 use native.Mathlib.Numerals.{add-one}
 use native.Mathlib.Omega.{arith}
 use mathlib.Core.Path.{_≡_, refl, sym, ap, _∙_}
@@ -9,9 +8,8 @@ use mathlib.Core.List.{List, [], _∷_}
 use mathlib.Core.Bool.{Bool, true, false, _&&_}
 use lib.ListN.{length, drop, getD}
 use lib.Seq.{drop-cons, drop-length}
-use lib.Dec.{ltb}
-use borrow.Author.Tests.{eq-eqb, ne-eqb, lt-ltb}
-use Rattle.rules.specs.Octets.{each-of, octetsIn, front}
+use borrow.Author.Tests.{eq-eqb, ne-eqb}
+use Rattle.rules.specs.Octets.{front}
 use Rattle.rules.specs.Book.{Entry, Book, bookNumber, bookOf, Found, unknown, known, find}
 use Rattle.rules.specs.Walks.{placeIn, foundBy}
 use Rattle.rules.specs.Endpoints.{Endpoint, Ends, isUp, inState, endAt}
@@ -26,24 +24,23 @@ use Rattle.rules.specs.declared.State.{State}
 use Rattle.rules.specs.declared.State.the-variants.{Idle, Configured, Open, Streaming, Closing, Aborting}
 use Rattle.rules.specs.declared.Channel.{Channel}
 use Rattle.rules.specs.declared.Channel.the-variants.{Absent, Awaited, Up}
-use Rattle.rules.specs.declared.Place.{Place}
 use Rattle.rules.specs.declared.Place.the-variants.{Known, Unknown}
-use Rattle.rules.proofs.Tests.{Told?, told, passed, failed, and-both}
+use Rattle.rules.proofs.Tests.{Told?, told, passed, failed}
 use Rattle.rules.proofs.Outcomes.{if-arms}
-use Rattle.rules.proofs.SavedReads.{Fits, ends-length, ends-back, ends-right, length-endsIn, read-short}
+use Rattle.rules.proofs.SavedReads.{Fits, ends-length, ends-back, ends-right, length-endsIn, read-short, octets-known}
 use Rattle.octets.specs.Patch.{patch}
-use Rattle.book.proofs.Found.{found-in, placed}
+use Rattle.book.proofs.Found.{found-as, placed}
 use Rattle.saved.specs.Records.{loaded, endpointOf, headOctets, recordAt}
 use Rattle.saved.specs.Moved.{inStateHead}
 use Rattle.saved.specs.Held.{Held}
+use Rattle.saved.specs.Serves.{Serves}
 use Rattle.saved.specs.declared.records.Endpoint.{Endpoint as Head}
-use Rattle.saved.proofs.OneStore.{loaded-one}
-use Rattle.replies.proofs.Serving.{misses}
-use Rattle.turns.specs.Answers.{counted, shown, Answers}
+use Rattle.saved.proofs.OneStore.{loaded-one, record-inside}
+use Rattle.replies.specs.Obeys.{endsOf, Obeys}
+use Rattle.replies.proofs.Serving.{unmoved, obeys, obeys-stay, misses}
 use Rattle.turns.specs.Turns.{mayTurn, turnedTo, Turned, turned, Turns, mayTurnBy}
 use Rattle.turns.proofs.HeadStored.{state-stored}
 use Rattle.turns.proofs.StoredOver.{Kept, kept-same, kept-set, kept-length, kept-short, store-over}
-use Rattle.turns.proofs.Answering.{comes-to, unmoved}
 
 -- ---- The tests
 
@@ -126,34 +123,35 @@ module _ (starts : Bool) (book : Book) (ends : Ends) (os : List ℕ) (s : OurSei
 
 -- ---- One turn, as the code makes it
 
-pub one-inside : (book l : List ℕ) → bookNumber book ≡ 0 → Held (counted book) l → (s : OurSeid) (i kind from size : ℕ)
+pub one-inside : (book l : List ℕ) → bookNumber book ≡ 0 → Held (length (bookOf book)) l → (s : OurSeid) (i kind from size : ℕ)
   → placeIn s book ≡ Known i kind from size → (i + 1) * recordRoom ≤ length l
 one-inside book l right held s i kind from size k =
-    omega (arith, held .room, mul-le-mul-right recordRoom (placed s book i kind from size right k .counted))
+    record-inside (length (bookOf book)) i l (placed s book i kind from size right k .counted) held
 
-module _ (book l : List ℕ) (right : bookNumber book ≡ 0) (held : Held (counted book) l) (s : OurSeid) (starts : Bool) where
+module _ (book l : List ℕ) (right : bookNumber book ≡ 0) (held : Held (length (bookOf book)) l) (s : OurSeid)
+    (starts : Bool) where
   pub one-unknown : placeIn s book ≡ Unknown → Turns starts book l s 0x12 l
   unfolding turned
-  one-unknown u = rw (misses s book u) (refl, unmoved (counted book) l held)
+  one-unknown u = rw (misses s book u) (refl, unmoved (length (bookOf book)) l held)
 
   module _ (i kind from size : ℕ) (k : placeIn s book ≡ Known i kind from size) (e : Head)
       (got : e ≡ loaded (recordAt i l)) where
-    inside : i < counted book
+    inside : i < length (bookOf book)
     inside = placed s book i kind from size right k .counted
 
     found : find s (bookOf book) ≡ foundBy s (Known i kind from size) book
-    found = sym (found-in s book) ∙ ap (λ (x : Place). foundBy s x book) k
+    found = found-as s book (Known i kind from size) k
 
-    tested : mayTurn starts (endAt (shown book l) i) ≡ mayTurnBy (e .state) (e .channel) starts
+    tested : mayTurn starts (endAt (endsOf book l) i) ≡ mayTurnBy (e .state) (e .channel) starts
     unfolding endpointOf
     tested =
         turns-by starts _
-        ∙ ap (λ (x : Endpoint). mayTurnBy (x .state) (x .channel) starts) (loaded-one (counted book) i l inside)
+        ∙ ap (λ (x : Endpoint). mayTurnBy (x .state) (x .channel) starts) (loaded-one (length (bookOf book)) i l inside)
         ∙ ap (λ (x : Head). mayTurnBy (x .state) (x .channel) starts) (sym got)
 
     pub one-stays : mayTurnBy (e .state) (e .channel) starts ≡ false → Turns starts book l s 0x31 l
     unfolding turned foundBy
-    one-stays f = rw (found, tested, f) (refl, unmoved (counted book) l held)
+    one-stays f = rw (found, tested, f) (refl, unmoved (length (bookOf book)) l held)
 
     pub one-moves : mayTurnBy (e .state) (e .channel) starts ≡ true → (l′ : List ℕ)
       → l′ ≡ patch (i * recordRoom) (headOctets (inStateHead (turnedTo starts) e)) l → Turns starts book l s 0 l′
@@ -162,89 +160,85 @@ module _ (book l : List ℕ) (right : bookNumber book ≡ 0) (held : Held (count
         rw (found, tested, t)
           ( refl,
             w ∙ ap (λ (h : Head). patch (i * recordRoom) (headOctets (inStateHead (turnedTo starts) h)) l) got
-            ∙ state-stored (counted book) i l inside held (turnedTo starts))
+            ∙ state-stored (length (bookOf book)) i l inside held (turnedTo starts))
 
 -- ---- All turns
 
 -- no SEID is listed
-pub none-listed : (starts : Bool) (book l p : List ℕ) → Held (counted book) l → length p ≡ 0
-  → (said : Said) (area area′ : List ℕ) → said ≡ saidOf (reject (0 ∷ 0x11 ∷ [])) → area′ ≡ front (0 ∷ 0x11 ∷ []) area
-  → Answers (turn (mayTurn starts) (turnedTo starts)) book l p area said l area′
+pub none-listed : (starts : Bool) (book l p area : List ℕ) → Serves book l p area → length p ≡ 0
+  → (said : Said) (area′ : List ℕ) → said ≡ saidOf (reject (0 ∷ 0x11 ∷ [])) → area′ ≡ front (0 ∷ 0x11 ∷ []) area
+  → Obeys (turn (mayTurn starts) (turnedTo starts)) book l p area said l area′
 unfolding turn rejectSeid payloadOf
-none-listed starts book l p held e said area area′ s a =
-    comes-to _ (shown book l) (rejectSeid (record { 0 = 0 }) 0x11) said l area l area′ (rw (eq-eqb (length p) 0 e)) s
-      (unmoved (counted book) l held) a
+none-listed starts book l p area serves e said area′ s a =
+    obeys-stay (turn (mayTurn starts) (turnedTo starts)) serves (rejectSeid (record { 0 = 0 }) 0x11)
+      (rw (eq-eqb (length p) 0 e)) s a
 
 -- the turns of the octets before `at` are made: the records hold l, and held l₀ before the first
 pub record Reached (starts : Bool) (book l₀ p l : List ℕ) (at : ℕ) : Type 0 where
-  pub held : Held (counted book) l
+  pub held : Held (length (bookOf book)) l
   pub long : length l ≡ length l₀
-  pub stored : l ≡ storeEnds (shown book l) l₀
-  pub left : each starts (bookOf book) (shown book l₀) p ≡ each starts (bookOf book) (shown book l) (drop at p)
+  pub stored : l ≡ storeEnds (endsOf book l) l₀
+  pub left : each starts (bookOf book) (endsOf book l₀) p ≡ each starts (bookOf book) (endsOf book l) (drop at p)
 
-pub reached-first : (starts : Bool) (book l p : List ℕ) → Held (counted book) l → Reached starts book l p l 0
+pub reached-first : (starts : Bool) (book l p : List ℕ) → Held (length (bookOf book)) l → Reached starts book l p l 0
 reached-first starts book l p held =
-    record { held = held; long = refl; stored = unmoved (counted book) l held; left = refl }
-
-octets-known : (l : List ℕ) → ((i : ℕ) → getD l i 0 < 256) → octetsIn l ≡ true
-unfolding each-of
-octets-known [] h = refl
-octets-known (o ∷ l) h = and-both (ltb o 256) (octetsIn l) (lt-ltb o 256 (h 0)) (octets-known l (λ i. h (suc i)))
+    record { held = held; long = refl; stored = unmoved (length (bookOf book)) l held; left = refl }
 
 module _ (starts : Bool) (book l₀ p l : List ℕ) (at : ℕ) (r : Reached starts book l₀ p l at) where
   -- the outcome is reached
-  answers : (length p ≡ 0 → ⊥) → (r′ : Reply) → each starts (bookOf book) (shown book l) (drop at p) ≡ stays (shown book l) r′
+  answers : (length p ≡ 0 → ⊥) → (r′ : Reply) → each starts (bookOf book) (endsOf book l) (drop at p) ≡ stays (endsOf book l) r′
     → (said : Said) (area l′ area′ : List ℕ) → said ≡ saidOf r′ → l′ ≡ l → area′ ≡ front (payloadOf r′) area
-    → Answers (turn (mayTurn starts) (turnedTo starts)) book l₀ p area said l′ area′
+    → Obeys (turn (mayTurn starts) (turnedTo starts)) book l₀ p area said l′ area′
   unfolding turn
   answers some r′ e said area l′ area′ s w a =
-      comes-to _ (shown book l) r′ said l₀ area l′ area′ (rw (ne-eqb (length p) 0 some) (r .left ∙ e)) s (w ∙ r .stored) a
+      obeys (turn (mayTurn starts) (turnedTo starts)) book l₀ p area (endsOf book l) r′
+        (rw (ne-eqb (length p) 0 some) (r .left ∙ e)) s (w ∙ r .stored) a
 
   pub turned-all : at ≡ length p → (length p ≡ 0 → ⊥) → (said : Said) (area area′ : List ℕ) → said ≡ saidOf (accept [])
-    → area′ ≡ area → Answers (turn (mayTurn starts) (turnedTo starts)) book l₀ p area said l area′
+    → area′ ≡ area → Obeys (turn (mayTurn starts) (turnedTo starts)) book l₀ p area said l area′
   unfolding turnEach payloadOf front
   turned-all e some said area area′ s a =
       let none : drop at p ≡ [] = ap (λ (k : ℕ). drop k p) e ∙ drop-length p in
-      answers some (accept []) (ap (each starts (bookOf book) (shown book l)) none) said area l area′ s refl a
+      answers some (accept []) (ap (each starts (bookOf book) (endsOf book l)) none) said area l area′ s refl a
 
-  fits : (ends : Ends) → Kept ends (shown book l) → (m : List ℕ) → length m ≡ length l → Fits ends m
+  fits : (ends : Ends) → Kept ends (endsOf book l) → (m : List ℕ) → length m ≡ length l → Fits ends m
   fits ends k m e =
-      let n = kept-length k ∙ length-endsIn (counted book) l in
-      record { short = kept-short k (read-short (counted book) l (r .held .right)); room = rw (n, e) (r .held .room) }
+      let n = kept-length k ∙ length-endsIn (length (bookOf book)) l in
+      record { short = kept-short k (read-short (length (bookOf book)) l (r .held .right)); room = rw (n, e) (r .held .room) }
 
   -- the turn of the octet at hand
   module _ (inside : at < length p) (code : ℕ) (l′ : List ℕ) (made : Turns starts book l (ourIn (getD p at 0)) code l′) where
-    on-turn : each starts (bookOf book) (shown book l) (drop at p)
-      ≡ next starts (bookOf book) (shown book l) (drop (at + 1) p) (ourIn (getD p at 0))
+    on-turn : each starts (bookOf book) (endsOf book l) (drop at p)
+      ≡ next starts (bookOf book) (endsOf book l) (drop (at + 1) p) (ourIn (getD p at 0))
           (find (ourIn (getD p at 0)) (bookOf book))
     unfolding turnEach next
     on-turn = rw (drop-cons p at 0 inside, add-one)
 
     pub stopped : (code ≡ 0 → ⊥) → (said : Said) (area area′ : List ℕ)
       → said ≡ saidOf (reject (getD p at 0 / 4 * 4 ∷ code ∷ [])) → area′ ≡ front (getD p at 0 / 4 * 4 ∷ code ∷ []) area
-      → Answers (turn (mayTurn starts) (turnedTo starts)) book l₀ p area said l′ area′
+      → Obeys (turn (mayTurn starts) (turnedTo starts)) book l₀ p area said l′ area′
     unfolding rejectSeid payloadOf ourIn
     stopped h said area area′ s a =
         let seid = ourIn (getD p at 0) in
         let f = find seid (bookOf book) in
-        let failed : turned starts (shown book l) f .code ≡ 0 → ⊥ = λ z. h (made .0 ∙ z) in
+        let failed : turned starts (endsOf book l) f .code ≡ 0 → ⊥ = λ z. h (made .0 ∙ z) in
         answers (λ z. omega arith) (rejectSeid seid code)
-          (on-turn ∙ fails starts (bookOf book) (shown book l) (drop (at + 1) p) seid f failed
-           ∙ ap (λ (k : ℕ). stays (shown book l) (rejectSeid seid k)) (sym (made .0)))
+          (on-turn ∙ fails starts (bookOf book) (endsOf book l) (drop (at + 1) p) seid f failed
+           ∙ ap (λ (k : ℕ). stays (endsOf book l) (rejectSeid seid k)) (sym (made .0)))
           said area l′ area′ s
-          (made .1 ∙ ap (λ (x : Ends). storeEnds x l) (turned-failed starts (shown book l) f failed)
-           ∙ sym (unmoved (counted book) l (r .held)))
+          (made .1 ∙ ap (λ (x : Ends). storeEnds x l) (turned-failed starts (endsOf book l) f failed)
+           ∙ sym (unmoved (length (bookOf book)) l (r .held)))
           a
 
     pub reached-next : code ≡ 0 → ((i : ℕ) → getD l′ i 0 < 256) → Reached starts book l₀ p l′ (at + 1)
     reached-next z octets =
         let f = find (ourIn (getD p at 0)) (bookOf book) in
-        let ends = turned starts (shown book l) f .ends in
-        let kept = turned-kept starts (shown book l) f in
+        let ends = turned starts (endsOf book l) f .ends in
+        let kept = turned-kept starts (endsOf book l) f in
         let room = fits ends kept l refl in
-        let n : length ends ≡ counted book = kept-length kept ∙ length-endsIn (counted book) l in
-        let back : shown book l′ ≡ ends =
-              ap (shown book) (made .1) ∙ ap (λ (k : ℕ). endsIn k (storeEnds ends l)) (sym n) ∙ ends-back ends l room in
+        let n : length ends ≡ length (bookOf book) = kept-length kept ∙ length-endsIn (length (bookOf book)) l in
+        let back : endsOf book l′ ≡ ends =
+              ap (endsOf book) (made .1) ∙ ap (λ (k : ℕ). endsIn k (storeEnds ends l)) (sym n) ∙ ends-back ends l room in
         let size : length l′ ≡ length l = ap length (made .1) ∙ ends-length ends l room in
         record {
           held =
@@ -256,10 +250,10 @@ module _ (starts : Bool) (book l₀ p l : List ℕ) (at : ℕ) (r : Reached star
           long = size ∙ r .long;
           stored =
             made .1 ∙ ap (storeEnds ends) (r .stored)
-            ∙ store-over kept l₀ (fits (shown book l) (kept-same (shown book l)) l₀ (sym (r .long)))
+            ∙ store-over kept l₀ (fits (endsOf book l) (kept-same (endsOf book l)) l₀ (sym (r .long)))
             ∙ ap (λ (x : Ends). storeEnds x l₀) (sym back);
           left =
             r .left ∙ on-turn
-            ∙ passes starts (bookOf book) (shown book l) (drop (at + 1) p) (ourIn (getD p at 0)) f (sym (made .0) ∙ z)
+            ∙ passes starts (bookOf book) (endsOf book l) (drop (at + 1) p) (ourIn (getD p at 0)) f (sym (made .0) ∙ z)
             ∙ ap (λ (x : Ends). each starts (bookOf book) x (drop (at + 1) p)) (sym back)
         }

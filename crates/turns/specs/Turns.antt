@@ -14,7 +14,7 @@ use Rattle.rules.specs.declared.State.{State}
 use Rattle.rules.specs.declared.State.the-variants.{Idle, Configured, Open, Streaming, Closing, Aborting}
 use Rattle.rules.specs.declared.Channel.{Channel}
 use Rattle.rules.specs.declared.Channel.the-variants.{Absent, Awaited, Up}
-use Rattle.turns.specs.Answers.{shown}
+use Rattle.replies.specs.Obeys.{endsOf}
 
 -- ---- Start and Suspend
 
@@ -40,7 +40,7 @@ turned starts ends (known i n) =
 
 -- the turn of a SEID over the records, and that a code and the records at exit are what it comes to
 abbrev pub turnOf : Bool → List ℕ → List ℕ → OurSeid → Turned
-turnOf starts book records s = turned starts (shown book records) (find s (bookOf book))
+turnOf starts book records s = turned starts (endsOf book records) (find s (bookOf book))
 
 abbrev pub Turns : Bool → List ℕ → List ℕ → OurSeid → ℕ → List ℕ → Type 0
 Turns starts book records s code records′ =

@@ -17,7 +17,7 @@ ghost use Rattle.octets.specs.Patch.{patch};
 ghost use Rattle.saved.specs.Records.{headOctets};
 ghost use Rattle.saved.specs.Moved.{leavingHead};
 ghost use Rattle.saved.specs.Serves.{Serves};
-ghost use Rattle.turns.specs.Answers.{Answers};
+ghost use Rattle.replies.specs.Obeys.{Obeys};
 ghost use Rattle.turns.specs.Turns.{mayCloseBy};
 
 // Whether Close takes an endpoint in this state.
@@ -48,7 +48,7 @@ fn leave(records: &mut [u8], index: usize, e: Endpoint, to: State) -> Said
 // 08 Close.
 pub fn close(book: &[u8], records: &mut [u8], payload: &[u8], reply: &mut [u8]) -> Said
     requires { ⌜ Serves (now book) (now records) (now payload) (now reply) ⌝ }
-    ensures { λ r. ⌜ Answers closeOf (now (book .entry)) (now (records .entry)) (now (payload .entry)) (now (reply .entry))
+    ensures { λ r. ⌜ Obeys closeOf (now (book .entry)) (now (records .entry)) (now (payload .entry)) (now (reply .entry))
         r (now (records .exit)) (now (reply .exit)) ⌝ }
 {
     if payload.len() != 1 {
@@ -77,7 +77,7 @@ pub fn close(book: &[u8], records: &mut [u8], payload: &[u8], reply: &mut [u8]) 
 // 0A Abort: silence where the length is wrong or the SEID unknown.
 pub fn abort(book: &[u8], records: &mut [u8], payload: &[u8], reply: &mut [u8]) -> Said
     requires { ⌜ Serves (now book) (now records) (now payload) (now reply) ⌝ }
-    ensures { λ r. ⌜ Answers abortOf (now (book .entry)) (now (records .entry)) (now (payload .entry)) (now (reply .entry))
+    ensures { λ r. ⌜ Obeys abortOf (now (book .entry)) (now (records .entry)) (now (payload .entry)) (now (reply .entry))
         r (now (records .exit)) (now (reply .exit)) ⌝ }
 {
     if payload.len() != 1 {

@@ -7,13 +7,14 @@ use rules::State;
 use saved::records::Endpoint;
 
 ghost use mathlib.Core.Path.{_≡_};
-ghost use Rattle.rules.specs.Book.{bookNumber};
+ghost use lib.ListN.{length};
+ghost use Rattle.rules.specs.Book.{bookNumber, bookOf};
 ghost use Rattle.rules.specs.Commands.{mayStart, maySuspend};
 ghost use Rattle.rules.specs.Commands.{turn as turnEvery};
 ghost use Rattle.rules.specs.declared.State.the-variants.{Open, Streaming};
 ghost use Rattle.saved.specs.Held.{Held};
 ghost use Rattle.saved.specs.Serves.{Serves};
-ghost use Rattle.turns.specs.Answers.{counted, Answers};
+ghost use Rattle.replies.specs.Obeys.{Obeys};
 ghost use Rattle.turns.specs.Turns.{mayTurn, turnedTo, Turns, mayTurnBy};
 
 // Whether an endpoint may start, open and with its channel up, or may be suspended, streaming.
@@ -48,7 +49,7 @@ fn turned_to(starts: bool) -> State
 
 // The turn of one SEID: 0, or the code of its failure.
 fn turn_one(book: &[u8], records: &mut [u8], seid: OurSeid, starts: bool) -> u8
-    requires { ⌜ (bookNumber (now book) ≡ 0) × Held (counted (now book)) (now records) ⌝ }
+    requires { ⌜ (bookNumber (now book) ≡ 0) × Held (length (bookOf (now book))) (now records) ⌝ }
     ensures { λ r. ⌜ Turns starts (now (book .entry)) (now (records .entry)) seid r (now (records .exit)) ⌝ }
 {
     let place = book::places::place(book, seid);
@@ -73,7 +74,7 @@ fn turn_one(book: &[u8], records: &mut [u8], seid: OurSeid, starts: bool) -> u8
 
 fn turn(book: &[u8], records: &mut [u8], payload: &[u8], reply: &mut [u8], starts: bool) -> Said
     requires { ⌜ Serves (now book) (now records) (now payload) (now reply) ⌝ }
-    ensures { λ r. ⌜ Answers (turnEvery (mayTurn starts) (turnedTo starts)) (now (book .entry)) (now (records .entry))
+    ensures { λ r. ⌜ Obeys (turnEvery (mayTurn starts) (turnedTo starts)) (now (book .entry)) (now (records .entry))
         (now (payload .entry)) (now (reply .entry)) r (now (records .exit)) (now (reply .exit)) ⌝ }
 {
     if payload.len() == 0 {
@@ -94,7 +95,7 @@ fn turn(book: &[u8], records: &mut [u8], payload: &[u8], reply: &mut [u8], start
 // 07 Start.
 pub fn start(book: &[u8], records: &mut [u8], payload: &[u8], reply: &mut [u8]) -> Said
     requires { ⌜ Serves (now book) (now records) (now payload) (now reply) ⌝ }
-    ensures { λ r. ⌜ Answers (turnEvery mayStart Streaming) (now (book .entry)) (now (records .entry)) (now (payload .entry))
+    ensures { λ r. ⌜ Obeys (turnEvery mayStart Streaming) (now (book .entry)) (now (records .entry)) (now (payload .entry))
         (now (reply .entry)) r (now (records .exit)) (now (reply .exit)) ⌝ }
 {
     turn(book, records, payload, reply, true)
@@ -103,7 +104,7 @@ pub fn start(book: &[u8], records: &mut [u8], payload: &[u8], reply: &mut [u8]) 
 // 09 Suspend.
 pub fn suspend(book: &[u8], records: &mut [u8], payload: &[u8], reply: &mut [u8]) -> Said
     requires { ⌜ Serves (now book) (now records) (now payload) (now reply) ⌝ }
-    ensures { λ r. ⌜ Answers (turnEvery maySuspend Open) (now (book .entry)) (now (records .entry)) (now (payload .entry))
+    ensures { λ r. ⌜ Obeys (turnEvery maySuspend Open) (now (book .entry)) (now (records .entry)) (now (payload .entry))
         (now (reply .entry)) r (now (records .exit)) (now (reply .exit)) ⌝ }
 {
     turn(book, records, payload, reply, false)

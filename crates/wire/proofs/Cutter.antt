@@ -7,7 +7,7 @@ use mathlib.Core.Bool.{Bool, true, false, not, _&&_}
 use native.Mathlib.Nat.{min-eq-left, min-eq-right}
 use native.Mathlib.Omega.{arith}
 use lib.ListN.{length, take, drop, length-take, length-drop}
-use lib.Seq.{take-all, length-take-le}
+use lib.Seq.{take-all}
 use lib.Dec.{leb, ltb, eqb, lit≤}
 use borrow.Author.Tests.{lt-ltb, le-ltb, le-leb, lt-leb, leb-true, leb-false, ne-eqb}
 use Rattle.rules.specs.Octets.{if_then_else_, front, between}
@@ -154,10 +154,6 @@ header-small total zero = go (eqb total 1)
     go true = lit≤ tt
     go false = lit≤ tt
 header-small total (suc k) = lit≤ tt
-
-pub part-length : (from size : ℕ) (l : List ℕ) → from + size ≤ length l → length (part from size l) ≡ size
-unfolding part
-part-length from size l fits = length-take-le size (drop from l) (rw length-drop (omega arith))
 
 -- a part is what remains of the payload, as far as the packet has room
 part-of : (h : Headers) (m k : ℕ) {count : ℕ} (payload : List ℕ) → Counts h m (length payload) count

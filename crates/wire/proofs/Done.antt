@@ -5,14 +5,18 @@ use Prim.Native.Nat.{ℕ, _+_, _≤_}
 use native.Mathlib.Omega.{arith}
 use mathlib.Core.Path.{_≡_, refl, sym, ap, _∙_}
 use mathlib.Core.List.{List, [], _∷_, _++_}
-use mathlib.Core.Option.{Option, some}
+use mathlib.Core.Logic.{⊎-elim}
+use mathlib.Core.Option.{Option, none, some}
 use lib.ListN.{length, drop, getD}
+use denote.Enum.Declared.{tagOf}
+use types.Run.{OneOf}
 use Rattle.rules.specs.Octets.{front}
 use Rattle.rules.specs.Packets.{Message, Gathering, extended, gather}
 use Rattle.rules.specs.Saved.{gatheringRoom, gatheringAt, gatheringIn, storeGathering}
 use Rattle.rules.specs.Wires.{nextOf, doneBy}
 use Rattle.rules.specs.declared.Next.{Next}
 use Rattle.rules.specs.declared.Next.the-variants.{Ended, Single, Begun, Grown, Complete}
+use Rattle.rules.proofs.Next.{the-type}
 use Rattle.wire.specs.Rooms.{RoomRight}
 use Rattle.wire.proofs.Steps.{RoomTells, room-told}
 use Rattle.wire.proofs.Rooms.{gatheredIn, marked, room-kept}
@@ -99,3 +103,14 @@ module _ (size : ℕ) (room p : List ℕ) where
                   payload = sym kept i .message .payload ++ drop 1 p
                 }))
         }
+
+-- what is neither a message in one packet nor the last part of one completes none
+pub none-done : (size : ℕ) (room p : List ℕ) (r : Next) → OneOf (0 ∷ 2 ∷ 3 ∷ []) (tagOf the-type r) → RoomTells size room p r
+  → gather size (gatheringIn room) p .done ≡ none
+none-done size room p Ended k t = t .done
+none-done size room p (Single l s n) k t =
+    absurd (⊎-elim (eqb-false 1 0 refl) (⊎-elim (eqb-false 1 2 refl) (eqb-false 1 3 refl)) k)
+none-done size room p Begun k t = t .done
+none-done size room p Grown k t = t .done
+none-done size room p (Complete l s n) k t =
+    absurd (⊎-elim (eqb-false 4 0 refl) (⊎-elim (eqb-false 4 2 refl) (eqb-false 4 3 refl)) k)

@@ -3,27 +3,22 @@ use Prim.Native.Nat.{ℕ, _-_}
 use mathlib.Core.Path.{_≡_, refl, sym, ap, _∙_}
 use mathlib.Core.List.{List, [], _∷_, _++_}
 use mathlib.Core.Bool.{true, false}
-use mathlib.Core.Logic.{⊎-elim}
 use mathlib.Core.Option.{Option, none, some}
 use native.Mathlib.Omega.{arith}
 use lib.ListN.{length, drop, length-drop}
-use denote.Enum.Declared.{tagOf}
-use types.Run.{OneOf}
 use borrow.Author.Needs.{needs}
-use borrow.Author.Tests.{eqb-false}
 use Rattle.rules.specs.Octets.{front}
 use Rattle.rules.specs.Packets.{Message, Step, gather}
 use Rattle.rules.specs.Saved.{gatheringIn, gatheringAt}
 use Rattle.rules.specs.Wires.{nextOf}
 use Rattle.rules.specs.declared.Next.{Next}
 use Rattle.rules.specs.declared.Next.the-variants.{Ended, Single, Begun, Grown, Complete}
-use Rattle.rules.proofs.Next.{the-type}
 use Rattle.octets.specs.Patch.{patch, part}
 use Rattle.octets.proofs.Patches.{front-patch}
 use Rattle.wire.specs.Rooms.{RoomRight}
 use Rattle.wire.proofs.Headers.{behind}
 use Rattle.wire.proofs.Steps.{Singles, RoomTells, room-told}
-use Rattle.wire.proofs.Done.{roomAfter, Assembled, assembled}
+use Rattle.wire.proofs.Done.{roomAfter, Assembled, assembled, none-done}
 use Rattle.echo.specs.declared.Echoed.{Echoed}
 use Rattle.echo.specs.Echoes.{echoedOf, payloadOn}
 use Rattle.echo.proofs.receive.Statement.{statement}
@@ -62,16 +57,6 @@ module _ (l t n : ℕ) (p : List ℕ) (done : Option Message) where
 assembled-left : (size : ℕ) (room left p : List ℕ) → RoomRight room → left ≡ roomAfter size room p → (l t n : ℕ)
   → nextOf size (gatheringIn room) p ≡ Complete l t n → Assembled l t n p left (gather size (gatheringIn room) p .done)
 assembled-left size room left p right e l t n f = rw e (assembled size room p right l t n f)
-
-none-done : (size : ℕ) (room p : List ℕ) (r : Next) → OneOf (0 ∷ 2 ∷ 3 ∷ []) (tagOf the-type r) → RoomTells size room p r
-  → gather size (gatheringIn room) p .done ≡ none
-none-done size room p Ended k t = t .done
-none-done size room p (Single l s n) k t =
-    absurd (⊎-elim (eqb-false 1 0 refl) (⊎-elim (eqb-false 1 2 refl) (eqb-false 1 3 refl)) k)
-none-done size room p Begun k t = t .done
-none-done size room p Grown k t = t .done
-none-done size room p (Complete l s n) k t =
-    absurd (⊎-elim (eqb-false 4 0 refl) (⊎-elim (eqb-false 4 2 refl) (eqb-false 4 3 refl)) k)
 
 none-echoed : (e : Echoed) (done : Option Message) → e ≡ record { done = false; label = 0; kind = 0; signal = 0; length = 0 }
   → done ≡ none → e ≡ echoedOf done

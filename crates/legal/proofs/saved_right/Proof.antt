@@ -10,7 +10,7 @@ use Rattle.rules.specs.Book.{bookOf}
 use Rattle.rules.specs.Saved.{recordRoom}
 use Rattle.rules.proofs.RightBook.{right-book}
 use Rattle.legal.specs.Legal.{recordsLegal, roomLegal}
-use Rattle.legal.proofs.EachRecord.{part-long}
+use Rattle.octets.proofs.Patches.{part-length}
 use Rattle.legal.proofs.RightSaved.{too-short, room-wrong, records-decide}
 use Rattle.legal.proofs.saved_right.Statement.{statement}
 use Rattle.legal.proofs.saved_right.Tie as tie
@@ -43,7 +43,7 @@ room-legal-requires : tie.Need-room-legal-requires
 room-legal-requires c κs =
     let long = c .before in
     let saved = long .before .before .before .before .args .saved .now in
-    subst (λ (x : List ℕ). length x ≡ 520) (sym (c .part .ensures)) (part-long 0 520 saved (omega (arith, long .if1 .left)))
+    subst (λ (x : List ℕ). length x ≡ 520) (sym (c .part .ensures)) (part-length 0 520 saved (omega (arith, long .if1 .left)))
 
 returns-2 : tie.Need-returns-2
 returns-2 c =
@@ -70,7 +70,7 @@ records-legal-requires c κs =
     let book = start .args .book .now in
     ( start .pre,
       subst (λ (x : List ℕ). length (bookOf book) * recordRoom ≤ length x) (sym (c .part2 .ensures))
-        (omega (arith, long .if1 .left, counted .count .ensures, part-long 520 (length saved - 520) saved (omega arith))))
+        (omega (arith, long .if1 .left, counted .count .ensures, part-length 520 (length saved - 520) saved (omega arith))))
 
 returns-3 : tie.Need-returns-3
 returns-3 c =

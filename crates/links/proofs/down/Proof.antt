@@ -25,8 +25,8 @@ get-requires c κs =
 is-up-requires : tie.Need-is-up-requires
 is-up-requires c κs = search needs
 
-forgotten-requires : tie.Need-forgotten-requires
-forgotten-requires c κs = search needs
+turned-requires : tie.Need-turned-requires
+turned-requires c κs = search needs
 
 set-requires : tie.Need-set-requires
 set-requires c κs =
@@ -51,8 +51,8 @@ returns c =
     let start = placed .before .before .before in
     down-done (start .args .seid) (start .args .book .now) (start .args .records .now) (told .place2 .given .0 .0) _ _ _ (start .pre .0)
       (start .pre .1) (sym (placed .place .ensures) ∙ told .place2 .given .1) (was-set .set .last .0) (got .get .result)
-      (moved .forgotten .result) (asked .is-up .result) (got .get .ensures) (asked .is-up .ensures) (tested .if1 .taken)
-      (moved .forgotten .ensures) (was-set .set .ensures)
+      (moved .turned .result) (asked .is-up .result) (got .get .ensures) (asked .is-up .ensures) (tested .if1 .taken)
+      (moved .turned .ensures) (was-set .set .ensures)
 
 returns-2 : tie.Need-returns-2
 returns-2 c =
@@ -84,7 +84,7 @@ down-spec =
     enum-known-place
     get-requires
     is-up-requires
-    forgotten-requires
+    turned-requires
     set-requires
     same-length
     returns

@@ -29,8 +29,8 @@ get-requires c κs =
 is-awaited-requires : tie.Need-is-awaited-requires Inv-loop μ-loop
 is-awaited-requires c κs = search needs
 
-up-requires : tie.Need-up-requires Inv-loop μ-loop
-up-requires c κs = search needs
+turned-requires : tie.Need-turned-requires Inv-loop μ-loop
+turned-requires c κs = search needs
 
 set-requires : tie.Need-set-requires Inv-loop μ-loop
 set-requires c κs =
@@ -57,9 +57,9 @@ returns c =
     let at-loop = in-loop .before in
     let start = at-loop .before .before in
     up-done (start .args .count) (at-loop .loop .i) (at-loop .loop .records) (start .args .records .now) (was-set .set .last .0)
-      (got .get .result) (moved .up .result) (asked .is-awaited .result) (in-loop .loop-test .taken) (start .pre)
+      (got .get .result) (moved .turned .result) (asked .is-awaited .result) (in-loop .loop-test .taken) (start .pre)
       (at-loop .loop .inv .2) (at-loop .loop .inv .0) (got .get .ensures) (asked .is-awaited .ensures) (tested .if1 .taken)
-      (moved .up .ensures) (was-set .set .ensures)
+      (moved .turned .ensures) (was-set .set .ensures)
 
 add-i : tie.Need-add-i Inv-loop μ-loop
 add-i c = omega arith
@@ -99,7 +99,7 @@ up-spec =
     loop-holds
     get-requires
     is-awaited-requires
-    up-requires
+    turned-requires
     set-requires
     same-length
     returns

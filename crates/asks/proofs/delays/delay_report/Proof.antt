@@ -20,9 +20,8 @@ use Rattle.book.proofs.Found.{entryBy}
 use Rattle.saved.specs.declared.records.Endpoint.{Endpoint as Head}
 use Rattle.saved.specs.Moved.{delayedHead}
 use Rattle.saved.specs.Records.{loaded, endpointOf, recordAt, configAt}
-use Rattle.replies.proofs.Serving.{Meets}
+use Rattle.replies.proofs.Serving.{Meets, config-short}
 use Rattle.asks.proofs.Meeting.{exactly, right-here, meets-here, says-code, did-refuse, did-answer}
-use Rattle.asks.proofs.Configs.{config-short}
 use Rattle.asks.proofs.Moving.{did-moved}
 use Rattle.asks.proofs.delays.delay_report.Statement.{statement}
 use Rattle.asks.proofs.delays.delay_report.Tie as tie

@@ -1,6 +1,6 @@
 -- `discover` meets its contract, by the length of the payload.
 use Prim.Native.Nat.{ℕ}
-use mathlib.Core.Path.{_≡_, sym, ap, _∙_}
+use mathlib.Core.Path.{_≡_, ap}
 use mathlib.Core.List.{List}
 use mathlib.Core.Bool.{Bool}
 use borrow.Author.Needs.{needs}
@@ -9,25 +9,23 @@ use lib.Dec.{eqb}
 use lib.ListN.{length}
 use Rattle.rules.specs.Octets.{if_then_else_}
 use Rattle.rules.specs.Book.{bookOf}
-use Rattle.rules.specs.Saved.{endsIn}
 use Rattle.rules.specs.Commands.{accept, stays, rejectBare, discovered}
 use Rattle.rules.specs.Commands.{discover as discoverAll}
-use Rattle.rules.specs.Answers.{did}
 use Rattle.rules.specs.declared.Said.{Said}
 use Rattle.saved.specs.Serves.{Serves}
-use Rattle.asks.specs.Done.{Says, done, obeyed}
+use Rattle.replies.specs.Obeys.{endsOf, Obeys}
+use Rattle.asks.specs.Says.{Says}
 use Rattle.asks.proofs.Meeting.{says-code, did-say}
 use Rattle.asks.proofs.discovers.discover.Statement.{statement}
 use Rattle.asks.proofs.discovers.discover.Tie as tie
 
 said-by : {book l p area : List ℕ} → Serves book l p area → (b : Bool) {said : Said} {after : List ℕ} → eqb (length p) 0 ≡ b
-  → Says (if b then accept (discovered (bookOf book) (endsIn (length (bookOf book)) l)) else rejectBare 0x11) said area after
-  → done said l after ≡ obeyed discoverAll book l p area
+  → Says (if b then accept (discovered (bookOf book) (endsOf book l)) else rejectBare 0x11) said area after
+  → Obeys discoverAll book l p area said l after
 unfolding discoverAll
-said-by {book} {l} {p} {area} serves b e h =
-    let ends = endsIn (length (bookOf book)) l in
-    did-say (length (bookOf book)) l _ (serves .held) h
-    ∙ ap (λ (t : Bool). did (stays ends (if t then accept (discovered (bookOf book) ends) else rejectBare 0x11)) l area) (sym e)
+said-by {book} {l} serves b e h =
+    let all = accept (discovered (bookOf book) (endsOf book l)) in
+    did-say discoverAll serves _ (ap (λ (t : Bool). stays (endsOf book l) (if t then all else rejectBare 0x11)) e) h
 
 list-entries-requires : tie.Need-list-entries-requires
 list-entries-requires c κs = search needs

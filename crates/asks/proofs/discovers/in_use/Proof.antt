@@ -1,51 +1,39 @@
--- `in_use` meets its contract, by the state: the second arm's keys are all states but idle.
+-- `in_use` meets its contract: the endpoint of the record is idle where its head is.
 use Prim.Native.Nat.{ℕ}
-use mathlib.Core.Path.{_≡_, refl, sym, ap, _∙_}
-use mathlib.Core.List.{List, [], _∷_}
+use mathlib.Core.Path.{_≡_, sym, ap, _∙_}
+use mathlib.Core.List.{List}
+use mathlib.Core.Bool.{Bool, true, false}
 use borrow.Author.Needs.{needs}
-use types.Run.{OneOf, miss}
-use denote.Enum.Declared.{tagOf}
 use Rattle.rules.specs.Octets.{if_then_else_}
 use Rattle.rules.specs.Endpoints.{isIdle}
 use Rattle.rules.specs.Saved.{endpointIn}
 use Rattle.rules.specs.Commands.{inUse}
-use Rattle.rules.specs.declared.State.{State}
-use Rattle.rules.specs.declared.State.the-variants.{Idle, Configured, Open, Streaming, Closing, Aborting}
-use Rattle.rules.proofs.State.{the-type}
 use Rattle.saved.specs.declared.records.Endpoint.{Endpoint as Head}
 use Rattle.saved.specs.Records.{loaded}
 use Rattle.asks.proofs.discovers.in_use.Statement.{statement}
 use Rattle.asks.proofs.discovers.in_use.Tie as tie
 
-use-by : (h : Head) (r : List ℕ) {n : ℕ} → h ≡ loaded r → n ≡ (if isIdle (h .state) then 0 else 2) → n ≡ inUse (endpointIn r)
+use-by : (h : Head) (r : List ℕ) (idle : Bool) → h ≡ loaded r → idle ≡ isIdle (h .state)
+  → _≡_ {A = ℕ} (if idle then 0 else 2) (inUse (endpointIn r))
 unfolding loaded inUse endpointIn
-use-by h r e f = f ∙ ap (λ (x : Head). if isIdle (x .state) then 0 else 2) e
-
-busy : (s : State) → OneOf (1 ∷ 2 ∷ 3 ∷ 4 ∷ 5 ∷ []) (tagOf the-type s) → _≡_ {A = ℕ} 2 (if isIdle s then 0 else 2)
-unfolding isIdle
-busy Idle k = absurd (miss (1 ∷ 2 ∷ 3 ∷ 4 ∷ 5 ∷ []) 0 tt k)
-busy Configured k = refl
-busy Open k = refl
-busy Streaming k = refl
-busy Closing k = refl
-busy Aborting k = refl
+use-by h r idle e f =
+    ap (λ (b : Bool). if b then 0 else 2) f ∙ ap (λ (x : Head). if isIdle (x .state) then 0 else 2) e
 
 get-requires : tie.Need-get-requires
 get-requires c κs = search needs
 
-enum-told : tie.Need-enum-told
-enum-told c = search needs
+is-idle-requires : tie.Need-is-idle-requires
+is-idle-requires c κs = search needs
 
 returns : tie.Need-returns
-unfolding isIdle
 returns c =
     let get = c .before .before in
-    use-by (get .get .result) _ (get .get .ensures) (sym (ap (λ s. if isIdle s then 0 else 2) (c .enum-told .given .1)))
+    use-by (get .get .result) _ true (get .get .ensures) (sym (c .if1 .taken) ∙ c .before .is-idle .ensures)
 
 returns-2 : tie.Need-returns-2
 returns-2 c =
-    let get = c .before in
-    use-by (get .get .result) _ (get .get .ensures) (busy (get .get .result .state) (c .match .keys2))
+    let get = c .before .before in
+    use-by (get .get .result) _ false (get .get .ensures) (sym (c .if1 .left) ∙ c .before .is-idle .ensures)
 
 pub in-use-spec : {M : Type 1} → statement M
-in-use-spec = tie.close (tie.spec get-requires enum-told returns returns-2)
+in-use-spec = tie.close (tie.spec get-requires is-idle-requires returns returns-2)

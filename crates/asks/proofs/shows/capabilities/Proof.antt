@@ -21,7 +21,7 @@ use Rattle.octets.specs.Patch.{patch, part}
 use Rattle.octets.proofs.Patches.{front-patch}
 use Rattle.book.proofs.Found.{entryBy}
 use Rattle.replies.proofs.Serving.{Meets}
-use Rattle.asks.specs.Done.{Says}
+use Rattle.asks.specs.Says.{Says}
 use Rattle.asks.specs.Shown.{shownBy}
 use Rattle.asks.proofs.Meeting.{exactly, meets-here, says-payload, did-refuse, did-answer}
 use Rattle.asks.proofs.shows.capabilities.Statement.{statement}

@@ -15,9 +15,8 @@ use Rattle.rules.specs.Commands.{accept, stays, rejectBare, isSet, ourIn, getCo
 use Rattle.rules.specs.declared.OurSeid.{OurSeid}
 use Rattle.saved.specs.declared.records.Endpoint.{Endpoint as Head}
 use Rattle.saved.specs.Records.{loaded, endpointOf, recordAt, configAt}
-use Rattle.replies.proofs.Serving.{Meets}
+use Rattle.replies.proofs.Serving.{Meets, config-short}
 use Rattle.asks.proofs.Meeting.{exactly, did-refuse, did-answer, meets-here, says-code, says-payload}
-use Rattle.asks.proofs.Configs.{config-short}
 use Rattle.asks.proofs.shows.get_configuration.Statement.{statement}
 use Rattle.asks.proofs.shows.get_configuration.Tie as tie
 

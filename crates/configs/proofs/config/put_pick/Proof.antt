@@ -14,8 +14,9 @@ use lib.Seq.{drop-cons, length-take-le}
 use Rattle.rules.specs.Octets.{if_then_else_}
 use Rattle.rules.specs.Elements.{element, clearLow, kept}
 use Rattle.octets.specs.Patch.{patch, part}
+use Rattle.octets.proofs.Patches.{patch-behind, patch-third}
 use Rattle.configs.specs.Stores.{sizeAt, valueAt, markedPick, PickFits}
-use Rattle.configs.proofs.Writes.{patch-behind, patch-third, Wrote, wrote-none}
+use Rattle.configs.proofs.Writes.{Wrote, wrote-none}
 use Rattle.configs.proofs.config.put_pick.Statement.{statement}
 use Rattle.configs.proofs.config.put_pick.Tie as tie
 

@@ -17,6 +17,7 @@ use Rattle.rules.specs.declared.Head.{Head}
 use Rattle.rules.specs.declared.Head.the-variants.{End, Short, Whole}
 use Rattle.rules.proofs.Lists.{shown-length}
 use Rattle.octets.specs.Patch.{patch, part}
+use Rattle.octets.proofs.Patches.{part-length}
 use Rattle.lists.proofs.Standing.{Stands, stands, items-by}
 use Rattle.configs.proofs.Writes.{Wrote, wrote-none, wrote-as, wrote-further}
 use Rattle.configs.proofs.shown.show.Reads as show
@@ -78,10 +79,8 @@ module _ {l : List ℕ} {at c n first : ℕ} (h : There l at c n first) (to : �
   room-behind : to + n + 2 + length (drop (first + n) l) ≤ length a
   room-behind = let k = length-drop at l in simp length-drop (omega (arith, h .next, h .fits))
 
-  part-length : (p : List ℕ) → p ≡ part at (n + 2) l → length p ≡ n + 2
-  unfolding part
-  part-length p e =
-      ap length e ∙ length-take-le (n + 2) (drop at l) (simp length-drop (omega (arith, h .next, h .fits)))
+  size-told : (p : List ℕ) → p ≡ part at (n + 2) l → length p ≡ n + 2
+  size-told p e = ap length e ∙ part-length at (n + 2) l (omega (arith, h .next, h .fits))
 
   -- one of 1 to 7 is written, and the rest behind it
   more : (p : List ℕ) {b b′ : List ℕ} {r : ℕ} → c ≤ 7 → p ≡ part at (n + 2) l → b ≡ patch to p a
@@ -89,7 +88,7 @@ module _ {l : List ℕ} {at c n first : ℕ} (h : There l at c n first) (to : �
   unfolding written upToCodec
   more p low e f w =
       let rest = shown l (first + n) in
-      let size = part-length p e in
+      let size = size-told p e in
       let s : shown l at ≡ p ++ rest =
             ap (λ (is : List Item). written (upToCodec is)) (h .behind)
             ∙ rw (le-leb c 7 low) (ap (λ (x : List ℕ). x ++ rest) (sym (e ∙ h .octets))) in
@@ -173,7 +172,7 @@ pub +show-spec : {M : Type 1} → statement M
       let found = c .before .before .before .before in
       let start = found .before .before .before .before .before in
       let size =
-            part-length (there-at found) (start .args .to) (start .args .area .now) (start .pre .1) (c .part .result .now)
+            size-told (there-at found) (start .args .to) (start .args .area .now) (start .pre .1) (c .part .result .now)
               (c .part .ensures) in
       omega (arith, rooms-at found))
     -- and the rest behind it

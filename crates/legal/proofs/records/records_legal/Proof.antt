@@ -8,9 +8,10 @@ use borrow.Author.Tests.{not-true, not-false}
 use Rattle.rules.specs.Book.{bookOf}
 use Rattle.rules.specs.Saved.{recordRoom}
 use Rattle.octets.specs.Patch.{part}
+use Rattle.octets.proofs.Patches.{part-length}
 use Rattle.book.proofs.Entries.{RightEntry, RightEntries, first-entry, other-entries, right-head}
 use Rattle.legal.specs.Legal.{awaitsIn, recordLegal, recordsLegal}
-use Rattle.legal.proofs.EachRecord.{part-long, part-short, awaits-few, legalFrom, entryAt, at-hand}
+use Rattle.legal.proofs.EachRecord.{part-short, awaits-few, legalFrom, entryAt, at-hand}
 use Rattle.legal.proofs.EachRecord.{turn-ends, turn-goes-on, all-counted, all-left, none-left}
 use Rattle.legal.proofs.records.records_legal.Statement.{statement}
 use Rattle.legal.proofs.records.records_legal.Tie as tie
@@ -86,7 +87,7 @@ slot-long c =
     let i = in-loop .before .loop .index in
     let records = in-loop .before .before .before .before .before .args .records .now in
     subst (λ (x : List ℕ). length x ≡ recordRoom) (sym (c .part .ensures))
-      (part-long (i * recordRoom) recordRoom records (room in-loop))
+      (part-length (i * recordRoom) recordRoom records (room in-loop))
 
 record-legal-requires : tie.Need-record-legal-requires Inv-loop μ-loop
 record-legal-requires c κs =

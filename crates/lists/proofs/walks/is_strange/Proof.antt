@@ -5,7 +5,8 @@ use lib.Dec.{ltb}
 use borrow.Author.Tests.{ltb-true, ltb-false}
 use Rattle.rules.specs.Elements.{categoryOf, isStrange}
 use Rattle.rules.proofs.Tests.{Told?, passed, failed, told}
-use Rattle.lists.proofs.Categories.{at-key, above-strange, known-there}
+use Rattle.rules.proofs.AlikeStep.{above-is-strange}
+use Rattle.lists.proofs.Categories.{at-key, known-there}
 use Rattle.lists.proofs.walks.is_strange.Statement.{statement}
 use Rattle.lists.proofs.walks.is_strange.Tie as tie
 
@@ -14,7 +15,7 @@ unfolding isStrange
 not-0 c f = go (told (ltb 8 c))
   where
     go : Told? (ltb 8 c) → ltb 8 c ≡ isStrange (categoryOf c)
-    go (passed t) = t ∙ sym (ap isStrange (above-strange c (ltb-true 8 c t)))
+    go (passed t) = t ∙ sym (ap isStrange (above-is-strange c (ltb-true 8 c t)))
     go (failed t) = t ∙ sym (known-there c f (ltb-false 8 c t))
 
 returns : tie.Need-returns

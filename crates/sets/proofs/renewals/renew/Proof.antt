@@ -6,7 +6,7 @@ use lib.ListN.{length, take}
 use lib.Seq.{length-take-le}
 use borrow.Author.Needs.{needs}
 use Rattle.saved.specs.Records.{configAt}
-use Rattle.sets.proofs.Anew.{size-short, part-room, copy-fits, copied, old-short, never, renew-keeps, renew-writes}
+use Rattle.sets.proofs.Anew.{renew-reads, size-short, copy-fits, copied, old-short, never, renew-keeps, renew-writes}
 use Rattle.sets.proofs.renewals.renew.Statement.{statement}
 use Rattle.sets.proofs.renewals.renew.Tie as tie
 
@@ -16,20 +16,14 @@ cast-size c = search needs
 slice-aggregate-put : tie.Need-slice-aggregate-put
 slice-aggregate-put c = search needs
 
-mul-part : tie.Need-mul-part
-mul-part c = search needs
-
-add-part : tie.Need-add-part
-add-part c = search needs
-
-abbrev start-of : tie.After-part-arg → tie.Start
+abbrev start-of : tie.After-config-arg → tie.Start
 start-of c = c .before .before .before .before .before .before
 
-part-requires : tie.Need-part-requires
-part-requires c κs = part-room (start-of c .pre)
+config-requires : tie.Need-config-requires
+config-requires c κs = renew-reads (start-of c .pre)
 
 put-requires : tie.Need-put-requires
-put-requires c κs = copy-fits (start-of (c .before) .pre) (c .part .ensures)
+put-requires c κs = copy-fits (start-of (c .before) .pre) (c .config .ensures)
 
 -- the copy is as long as it was before
 copy-room : (c : tie.After-copy2) → start-of (c .before .before .before) .args .head .length ≤ length (c .before .put .last .0)
@@ -41,7 +35,7 @@ old-same : (c : tie.After-copy3)
     take (args .head .length) (c .before .before .put .last .0) ≡ configAt (args .index) (args .records .now)
 old-same c =
     let put = c .before .before in
-    copied (start-of (put .before .before) .pre) (put .before .part .ensures) _ refl (put .put .ensures)
+    copied (start-of (put .before .before) .pre) (put .before .config .ensures) _ refl (put .put .ensures)
 
 array-share-prefix-copy : tie.Need-array-share-prefix-copy
 array-share-prefix-copy c = copy-room c
@@ -91,9 +85,7 @@ renew-spec =
     (tie.spec
     cast-size
     slice-aggregate-put
-    mul-part
-    add-part
-    part-requires
+    config-requires
     put-requires
     array-share-prefix-copy
     slice-aggregate-old

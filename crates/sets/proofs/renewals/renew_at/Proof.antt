@@ -1,6 +1,6 @@
 -- `renew_at` meets its contract: each way out has passed the checks before it, and what it says and writes is a law of `Anew`.
 use Prim.Native.Nat.{ℕ}
-use mathlib.Core.Path.{_≡_, sym, ap₂, _∙_, subst}
+use mathlib.Core.Path.{_≡_, sym, ap, _∙_}
 use mathlib.Core.List.{List}
 use mathlib.Core.Bool.{true, false}
 use native.Mathlib.Nat.{le-trans}
@@ -12,11 +12,8 @@ use Rattle.rules.specs.Elements.{items}
 use Rattle.rules.specs.Walks.{noMarks, walkOf}
 use Rattle.rules.specs.Endpoints.{isIdle}
 use Rattle.rules.specs.Commands.{isOpen}
-use Rattle.rules.specs.declared.Marks.{Marks}
 use Rattle.rules.specs.declared.Rule.the-variants.{Reconfiguring}
 use Rattle.octets.specs.Patch.{part}
-use Rattle.lists.specs.Asks.{LastMarked}
-use Rattle.lists.proofs.Passing.{none-last}
 use Rattle.sets.proofs.Doings.{met}
 use Rattle.sets.proofs.Anew.{renews, idle-refused, closed-refused, fault-refused, anew-moves}
 use Rattle.sets.proofs.renewals.renew_at.Statement.{statement}
@@ -33,16 +30,15 @@ busy c = sym (c .before .is-idle .ensures) ∙ c .if1 .left
 opened : (c : tie.Else2) → isOpen (c .before .before .before .before .get .result .state) ≡ true
 opened c = sym (c .before .is-open .ensures) ∙ not-false _ (c .if2 .left)
 
-found : (c : tie.After-walk)
-  → let args = start-of (c .before .before .before .before .before .before .before) .args in
-    c .walk .result
+found : (c : tie.After-renewed-elements)
+  → let args = start-of (c .before .before .before .before .before .before) .args in
+    c .renewed-elements .result
     ≡ walkOf Reconfiguring (items (take (args .size) (drop (args .from) (args .book .now)))) (args .payload .now) 1 noMarks
 unfolding part
 found c =
-    let args = start-of (c .before .before .before .before .before .before .before) .args in
-    c .walk .ensures
-    ∙ ap₂ (λ (l : List ℕ) (m : Marks). walkOf Reconfiguring (items l) (args .payload .now) 1 m) (c .before .before .part .ensures)
-        (c .before .none .ensures)
+    let args = start-of (c .before .before .before .before .before .before) .args in
+    c .renewed-elements .ensures
+    ∙ ap (λ (l : List ℕ). walkOf Reconfiguring (items l) (args .payload .now) 1 noMarks) (c .before .part .ensures)
 
 get-requires : tie.Need-get-requires
 get-requires c κs = let start = c .before .before .before .before .before in met (start .pre .0) (start .pre .2) .inside
@@ -93,20 +89,15 @@ part-requires c κs =
     let start = start-of (c .before .before .before .before) in
     met (start .pre .0) (start .pre .2) .placed .inside
 
-none-requires : tie.Need-none-requires
-none-requires c κs = search needs
-
-walk-requires : tie.Need-walk-requires
-walk-requires c κs =
-    let start = start-of (c .before .before .before .before .before .before) in
-    (le-trans (start .pre .0 .short) (lit≤ tt), tt, subst LastMarked (sym (c .none .ensures)) none-last)
+renewed-elements-requires : tie.Need-renewed-elements-requires
+renewed-elements-requires c κs = search needs
 
 enum-known-walked : tie.Need-enum-known-walked
 enum-known-walked c = search needs
 
 rejected-for-requires-3 : tie.Need-rejected-for-requires-3
 rejected-for-requires-3 c κs =
-    let start = start-of (c .before .before .before .before .before .before .before .before .before .before .before) in
+    let start = start-of (c .before .before .before .before .before .before .before .before .before .before) in
     le-trans (lit≤ tt) (start .pre .0 .room)
 
 enum-known-walked-2 : tie.Need-enum-known-walked-2
@@ -117,11 +108,11 @@ unfolding part
 renew-requires c κs =
     let clean = c .before .before in
     let checked = clean .before .before in
-    let past = checked .before .before .before in
+    let past = checked .before .before in
     let got = past .before .before .before .before in
     let start = start-of got in
     renews (start .pre .0) (start .pre .2) (got .get .ensures) (busy (past .before .before))
-      (checked .before .before .part .ensures) (sym (found checked) ∙ clean .walked2 .given .1)
+      (checked .before .part .ensures) (sym (found checked) ∙ clean .walked2 .given .1)
 
 accepted-requires : tie.Need-accepted-requires
 accepted-requires c κs = search needs
@@ -136,7 +127,7 @@ returns-3 : tie.Need-returns-3
 returns-3 c =
     let fault = c .before .before .before .before .before in
     let checked = fault .before .before in
-    let past = checked .before .before .before in
+    let past = checked .before .before in
     let got = past .before .before .before .before in
     let start = start-of got in
     fault-refused (start .pre .0) (start .pre .2) (got .get .ensures) (start .pre .1) (busy (past .before .before)) (opened past)
@@ -150,7 +141,7 @@ returns-4 c =
     let renewed = c .before .before .before in
     let clean = renewed .before .before .before in
     let checked = clean .before .before in
-    let past = checked .before .before .before in
+    let past = checked .before .before in
     let got = past .before .before .before .before in
     let start = start-of got in
     anew-moves (start .pre .0) (start .pre .2) (got .get .ensures) (start .pre .1) (busy (past .before .before)) (opened past)
@@ -172,8 +163,7 @@ renew-at-spec =
     same-length-4
     returns-2
     part-requires
-    none-requires
-    walk-requires
+    renewed-elements-requires
     enum-known-walked
     rejected-for-requires-3
     enum-known-walked-2

@@ -29,13 +29,13 @@ right : (c : tie.Else2)
 unfolding farIn
 right c = sym (c .before .far-right .ensures) ∙ not-false _ (c .if2 .left)
 
-found : (c : tie.After-setting)
+found : (c : tie.After-set-elements)
   → let args = start-of (c .before .before .before .before .before .before .before) .args in
-    c .setting .result ≡ settingOf (items (take (args .size) (drop (args .from) (args .book .now)))) (args .payload .now) 2
+    c .set-elements .result ≡ settingOf (items (take (args .size) (drop (args .from) (args .book .now)))) (args .payload .now) 2
 unfolding part
 found c =
     let args = start-of (c .before .before .before .before .before .before .before) .args in
-    c .setting .ensures ∙ ap (λ (l : List ℕ). settingOf (items l) (args .payload .now) 2) (c .before .part .ensures)
+    c .set-elements .ensures ∙ ap (λ (l : List ℕ). settingOf (items l) (args .payload .now) 2) (c .before .part .ensures)
 
 get-requires : tie.Need-get-requires
 get-requires c κs = let start = c .before .before .before .before .before in met (start .pre .0) (start .pre .2) .inside
@@ -90,8 +90,8 @@ part-requires c κs =
     let start = start-of (c .before .before .before .before .before) in
     met (start .pre .0) (start .pre .2) .placed .inside
 
-setting-requires : tie.Need-setting-requires
-setting-requires c κs = search needs
+set-elements-requires : tie.Need-set-elements-requires
+set-elements-requires c κs = search needs
 
 enum-known-walked : tie.Need-enum-known-walked
 enum-known-walked c = search needs
@@ -169,7 +169,7 @@ set-at-spec =
     same-length-4
     returns-2
     part-requires
-    setting-requires
+    set-elements-requires
     enum-known-walked
     rejected-for-requires-3
     enum-known-walked-2

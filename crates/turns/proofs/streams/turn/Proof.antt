@@ -32,9 +32,8 @@ returns c =
     let tested = c .before .before .before .before in
     let entry = tested .before .before .before .before .before in
     let args = entry .args in
-    none-listed (args .starts) (args .book .now) (args .records .now) (args .payload .now) (entry .pre .held)
-      (tested .if1 .taken) (rejected .result) (args .reply .now) (rejected .last .0) (rejected .ensures .0)
-      (rejected .ensures .1)
+    none-listed (args .starts) (args .book .now) (args .records .now) (args .payload .now) (args .reply .now) (entry .pre)
+      (tested .if1 .taken) (rejected .result) (rejected .last .0) (rejected .ensures .0) (rejected .ensures .1)
 
 loop-holds : tie.Need-loop-holds Inv-loop μ-loop
 loop-holds c =

@@ -11,8 +11,9 @@ use Rattle.rules.specs.Host.{cutRefusal, cutCall}
 use Rattle.rules.specs.Wires.{cutBy}
 use Rattle.rules.specs.declared.Piece.{Piece}
 use Rattle.rules.proofs.ReadsBack.{HasRoom, count-small}
+use Rattle.octets.proofs.Patches.{part-length}
 use Rattle.wire.proofs.Cutter.{size-small, size-large, size-right, Numbered, numbered, refuses, wrong-size, too-high}
-use Rattle.wire.proofs.Cutter.{label-large, type-large, signal-large, header-small, part-length}
+use Rattle.wire.proofs.Cutter.{label-large, type-large, signal-large, header-small}
 use Rattle.wire.proofs.Cutter.{from-within, too-short, writes}
 use Rattle.wire.proofs.cuts.cut.Statement.{statement}
 use Rattle.wire.proofs.cuts.cut.Tie as tie

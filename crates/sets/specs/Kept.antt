@@ -1,0 +1,35 @@
+-- The endpoint that a payload names, and what is kept of a configuration.
+use Prim.Native.Nat.{ℕ, _+_, _*_, _≤_}
+use mathlib.Core.Path.{_≡_}
+use mathlib.Core.List.{List, _++_}
+use mathlib.Core.Bool.{true}
+use lib.ListN.{length, getD}
+use Rattle.rules.specs.Elements.{items, couldStore}
+use Rattle.rules.specs.Walks.{noMarks, walkOf, placeIn}
+use Rattle.rules.specs.Saved.{recordRoom}
+use Rattle.rules.specs.Commands.{ourIn}
+use Rattle.rules.specs.declared.Marks.{Marks}
+use Rattle.rules.specs.declared.Rule.the-variants.{Reconfiguring}
+use Rattle.rules.specs.declared.Walked.the-variants.{Clean}
+use Rattle.rules.specs.declared.Place.the-variants.{Known}
+use Rattle.saved.specs.Records.{loaded, headOctets, recordAt, configAt}
+use Rattle.saved.specs.Moved.{reconfiguredHead}
+use Rattle.saved.specs.declared.records.Endpoint.{Endpoint as Head}
+
+-- the payload begins with the SEID of entry i, whose list is the `size` octets from `from` on
+pub record Names (book payload : List ℕ) (i from size : ℕ) : Type 0 where
+  pub kind : ℕ
+  pub there : placeIn (ourIn (getD payload 0 0)) book ≡ Known i kind from size
+
+-- the octets of a record with this configuration: the head, which tells its length, and the configuration
+unfoldable pub keptOctets : Head → List ℕ → List ℕ
+keptOctets h config = headOctets (reconfiguredHead (length config) h) ++ config
+
+-- an endpoint that can be configured anew: record i has this head and a configuration that the list could store, and the elements
+-- of the payload have no fault
+pub record Renews (caps records payload : List ℕ) (i : ℕ) (h : Head) (m : Marks) : Type 0 where
+  pub inside : (i + 1) * recordRoom ≤ length records
+  pub head : h ≡ loaded (recordAt i records)
+  pub could : couldStore (items caps) (configAt i records) ≡ true
+  pub few : length caps ≤ 64
+  pub clean : walkOf Reconfiguring (items caps) payload 1 noMarks ≡ Clean m

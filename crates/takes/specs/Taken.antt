@@ -1,0 +1,61 @@
+-- What a packet leads to on a right saved area, step by step, and what the code may count on there.
+use Prim.Native.Nat.{ℕ, _+_, _≤_}
+use mathlib.Core.Path.{_≡_}
+use mathlib.Core.List.{List, _++_}
+use mathlib.Core.Bool.{true}
+use lib.ListN.{length, take, drop, getD}
+use lib.Dec.{eqb}
+use Rattle.rules.specs.Octets.{if_then_else_, front}
+use Rattle.rules.specs.Book.{bookNumber, bookOf}
+use Rattle.rules.specs.Packets.{Message, gather}
+use Rattle.rules.specs.Saved.{gatheringRoom, pairIn, gatheringAt, gatheringIn, storeGathering, endsIn, storeEnds, connectionIn, store}
+use Rattle.rules.specs.Saved.{savedRight}
+use Rattle.rules.specs.Commands.{answer}
+use Rattle.rules.specs.Host.{Told, nothingSaid, toldOf, payloadOf, takes, Answered}
+use Rattle.rules.specs.declared.Said.{Said}
+use Rattle.saved.specs.Serves.{Serves}
+
+-- a right book, a right saved area over it, and room for every reply
+pub record Takes (book saved reply : List ℕ) : Type 0 where
+  pub right : bookNumber book ≡ 0
+  pub legal : savedRight (bookOf book) saved ≡ true
+  pub room : 64 ≤ length reply
+
+-- what is told of what a command says
+unfoldable pub spoken : ℕ → ℕ → Said → Told
+spoken label signal said =
+    if eqb (said .kind) 0 then nothingSaid 0
+    else record { number = 0; label = label; type = said .kind; signal = signal; length = said .length }
+
+-- the saved area behind the gathering of a packet
+unfoldable pub areaAfter : ℕ → List ℕ → List ℕ → List ℕ
+areaAfter size saved p =
+    let room = take gatheringRoom saved in
+    storeGathering (gather size (gatheringIn room) p .gathering) room ++ drop gatheringRoom saved
+
+-- what is gathered in the saved area, and then the packet's part
+unfoldable pub joined : List ℕ → List ℕ → List ℕ
+joined saved p = gatheringAt (take gatheringRoom saved) .message .payload ++ drop 1 p
+
+pub record Joins (book saved p reply : List ℕ) : Type 0 where
+  pub long : length (take gatheringRoom saved) ≡ gatheringRoom
+  pub header : 1 ≤ length p
+  pub gathered : pairIn (getD (take gatheringRoom saved) 6 0) (getD (take gatheringRoom saved) 7 0) ≤ 512
+  pub fits : length (gatheringAt (take gatheringRoom saved) .message .payload) + length (drop 1 p) ≤ 512
+  pub serves : Serves book (drop gatheringRoom saved) (joined saved p) reply
+
+-- a message answered over the records of the saved area
+unfoldable pub served : List ℕ → Message → List ℕ → List ℕ → Answered
+served book m saved reply =
+    let records = drop gatheringRoom saved in
+    let o = answer (bookOf book) (endsIn (length (bookOf book)) records) m in
+    record {
+      told = toldOf m (o .reply);
+      saved = take gatheringRoom saved ++ storeEnds (o .ends) records;
+      reply = front (payloadOf (o .reply)) reply
+    }
+
+unfoldable pub taken : List ℕ → ℕ → List ℕ → List ℕ → List ℕ → Answered
+taken book size saved p reply =
+    let t = takes (bookOf book) size (connectionIn (length (bookOf book)) saved) p in
+    record { told = t .told; saved = store (t .connection) saved; reply = front (t .payload) reply }
