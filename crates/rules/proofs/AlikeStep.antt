@@ -1,6 +1,6 @@
 -- Books alike answer alike: an entry stands at the same place in both, what is looked up of it is the same, and category 8 is
 -- looked up only by the commands that use delay reporting.
-use Prim.Native.Nat.{ℕ, zero, suc, _≤_, _<_}
+use Prim.Native.Nat.{ℕ, zero, suc, _<_}
 use mathlib.Core.Path.{_≡_, refl, sym, ap, ap₂, _∙_, subst}
 use mathlib.Core.List.{List, [], _∷_}
 use mathlib.Core.Bool.{Bool, true, false, not, _&&_, _||_}

@@ -1,4 +1,4 @@
-// The saved connection: one endpoint's record, loaded by value, moved and stored back; legality; link events.
+// The saved connection: one endpoint's record, loaded by value, tested, moved and stored back; its configuration where it stands.
 pub mod records;
 pub mod tests;
 pub mod moves;

@@ -1,0 +1,127 @@
+-- The questions about an endpoint: a refusal shows nothing, a SEID that the book does not have is 10, and of one that it has the
+-- record behind the gathering tells the configuration and the delay.
+use Prim.Native.Nat.{ℕ, _+_, _*_, _-_, _≤_}
+use native.Mathlib.Omega.{arith}
+use mathlib.Core.Path.{_≡_, refl, sym, ap, _∙_, subst}
+use mathlib.Core.List.{List, [], _∷_}
+use lib.ListN.{length, take, drop}
+use borrow.Author.Tests.{ne-eqb}
+use Rattle.rules.specs.Octets.{if_then_else_, isEmpty}
+use Rattle.rules.specs.Book.{bookOf, find}
+use Rattle.rules.specs.Walks.{placeIn, foundBy}
+use Rattle.rules.specs.Endpoints.{Endpoint, endAt}
+use Rattle.rules.specs.Saved.{gatheringRoom, recordRoom, endsIn, connectionIn}
+use Rattle.rules.specs.Host.{refusalOf, settingsOf, Shown, shownAt, settingsCall, heard, heardAt, delayCall}
+use Rattle.rules.specs.Answers.{heardBy}
+use Rattle.rules.specs.declared.OurSeid.{OurSeid}
+use Rattle.rules.specs.declared.Delay.the-variants.{Unreported}
+use Rattle.rules.specs.declared.Heard.{Heard as HeardBy}
+use Rattle.rules.specs.declared.Place.the-variants.{Unknown, Known}
+use Rattle.rules.proofs.Places.{legal-at}
+use Rattle.rules.proofs.ShortReplies.{end-short}
+use Rattle.octets.specs.Patch.{part}
+use Rattle.book.proofs.Found.{entryBy, found-as, Placed, placed}
+use Rattle.saved.specs.Records.{loaded, endpointOf, recordAt, configAt}
+use Rattle.saved.specs.declared.records.Endpoint.{Endpoint as Head}
+use Rattle.saved.proofs.OneStore.{loaded-one}
+use Rattle.replies.proofs.Serving.{misses}
+use Rattle.links.proofs.Awaits.{has-room}
+use Rattle.bridge.specs.Calls.{Hears}
+use Rattle.takes.proofs.Halves.{behind-whole}
+use Rattle.bridge.proofs.Refusing.{Calm}
+
+module _ (book saved : List ℕ) (s : OurSeid) where
+  -- ---- Refused
+
+  module _ (n : ℕ) (e : n ≡ refusalOf book saved) (h : n ≡ 0 → ⊥) where
+    pub refused-shown : settingsCall book saved s ≡ record { number = n; part = [] }
+    unfolding settingsCall
+    refused-shown = rw (← e, ne-eqb n 0 h)
+
+    pub refused-heard : (r : HeardBy) → heardBy r ≡ heard n Unreported → Hears book saved s r
+    unfolding delayCall
+    refused-heard r said = said ∙ rw (← e, ne-eqb n 0 h)
+
+  -- ---- Not refused
+
+  module _ (calm : Calm book saved) where
+    pub missing-shown : placeIn s book ≡ Unknown → settingsCall book saved s ≡ record { number = 10; part = [] }
+    unfolding settingsCall shownAt
+    missing-shown e = rw (calm .allowed, misses s book e)
+
+    pub missing-heard : (r : HeardBy) → placeIn s book ≡ Unknown → heardBy r ≡ heard 10 Unreported → Hears book saved s r
+    unfolding delayCall heardAt
+    missing-heard r e said = said ∙ rw (calm .allowed, misses s book e)
+
+    pub there-shown : (i kind from size : ℕ) → placeIn s book ≡ Known i kind from size
+      → settingsCall book saved s
+        ≡ record {
+            number = 0;
+            part =
+              settingsOf (entryBy s book kind from size) (endAt (endsIn (length (bookOf book)) (drop gatheringRoom saved)) i)
+          }
+    unfolding settingsCall shownAt foundBy connectionIn
+    there-shown i kind from size e = rw (calm .allowed, found-as s book (Known i kind from size) e)
+
+    there-heard : (i kind from size : ℕ) → placeIn s book ≡ Known i kind from size
+      → delayCall book saved s ≡ heard 0 (endAt (endsIn (length (bookOf book)) (drop gatheringRoom saved)) i .delay)
+    unfolding delayCall heardAt foundBy connectionIn
+    there-heard i kind from size e = rw (calm .allowed, found-as s book (Known i kind from size) e)
+
+    -- ---- The endpoint that the SEID names
+
+    module _ (i kind from size : ℕ) (there : placeIn s book ≡ Known i kind from size) where
+      abbrev records : List ℕ
+      records = take (length saved - 520) (drop 520 saved)
+
+      place : Placed s book i kind from size
+      place = placed s book i kind from size (calm .numbered) there
+
+      shows : endAt (endsIn (length (bookOf book)) (drop gatheringRoom saved)) i
+        ≡ endpointOf (loaded (recordAt i records)) (configAt i records)
+      shows =
+          loaded-one (length (bookOf book)) i (drop gatheringRoom saved) (place .counted)
+          ∙ ap (λ (l : List ℕ). endpointOf (loaded (recordAt i l)) (configAt i l)) (sym (behind-whole 520 saved))
+
+      pub record-there : (i + 1) * recordRoom ≤ length records
+      record-there =
+          has-room (length (bookOf book)) i (drop gatheringRoom saved) records (place .counted) (calm .inside .held)
+            (behind-whole 520 saved)
+
+      pub config-fits : length (configAt i records) ≤ 64
+      unfolding endpointOf
+      config-fits =
+          let ends = endsIn (length (bookOf book)) (drop gatheringRoom saved) in
+          rw shows at
+            (end-short (entryBy s book kind from size) (endAt ends i) (place .right)
+              (legal-at (place .place) ends (calm .inside .lawful)))
+
+      pub offer-inside : from + size ≤ length book
+      offer-inside = place .inside
+
+      pub known-heard : (h : Head) (r : HeardBy) → h ≡ loaded (recordAt i records) → heardBy r ≡ heard 0 (h .delay)
+        → Hears book saved s r
+      unfolding endpointOf
+      known-heard h r got said =
+          said
+          ∙ ap (λ (x : Head). heard 0 (x .delay)) got
+          ∙ sym (there-heard i kind from size there ∙ ap (λ (e : Endpoint). heard 0 (e .delay)) shows)
+
+      shown-part : settingsCall book saved s .part
+        ≡ if isEmpty (configAt i records) then part from size book else configAt i records
+      unfolding settingsOf endpointOf part
+      shown-part =
+          ap (λ (x : Shown). x .part) (there-shown i kind from size there)
+          ∙ ap (settingsOf (entryBy s book kind from size)) shows
+
+      pub offer-shown : (config r : List ℕ) → config ≡ configAt i records → length config ≡ 0 → r ≡ part from size book
+        → r ≡ settingsCall book saved s .part
+      unfolding isEmpty
+      offer-shown [] r got empty said = said ∙ sym (shown-part ∙ rw (← got))
+      offer-shown (x ∷ config) r got empty said = absurd (omega arith)
+
+      pub config-shown : (config : List ℕ) → config ≡ configAt i records → (length config ≡ 0 → ⊥)
+        → config ≡ settingsCall book saved s .part
+      unfolding isEmpty
+      config-shown [] got some = absurd (some refl)
+      config-shown (x ∷ config) got some = sym (shown-part ∙ rw (← got))

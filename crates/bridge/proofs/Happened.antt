@@ -1,0 +1,147 @@
+-- The link events over the whole saved area: what happens to the records behind the gathering is what happens to the connection,
+-- and storing the gathering that was read changes none of its octets.
+use Prim.Native.Nat.{ℕ, _-_}
+use native.Mathlib.Omega.{arith}
+use mathlib.Core.Path.{_≡_, refl, sym, ap, ap₂, _∙_}
+use mathlib.Core.List.{List, _++_}
+use mathlib.Core.Option.{none}
+use lib.ListN.{length, take, drop, set, take-append-drop}
+use lib.Dec.{eqb}
+use borrow.Author.Tests.{ne-eqb}
+use borrow.Rule.Slice.PartMut.{putMid}
+use Rattle.rules.specs.Book.{bookOf, Entry, Found, unknown, known, find}
+use Rattle.rules.specs.Endpoints.{Ends, Connection, endAt, awaiting, isUp, upIn, forgotten, withEnds, downAt, happens}
+use Rattle.rules.specs.Saved.{gatheringRoom, endsIn, storeEnds, gatheringIn, storeGathering, connectionIn, store}
+use Rattle.rules.specs.Host.{numberOr, refusalOf, eventCall}
+use Rattle.rules.specs.declared.OurSeid.{OurSeid}
+use Rattle.rules.specs.declared.Event.{Event}
+use Rattle.rules.specs.declared.Event.the-variants.{Up, Down, Lost}
+use Rattle.rules.proofs.Tests.{Told?, told, passed, failed}
+use Rattle.rules.proofs.SavedReads.{octets-take, gathering-kept}
+use Rattle.saved.specs.Held.{Held}
+use Rattle.links.specs.Events.{Turned, upped, downed, downedAt, allIdle}
+use Rattle.bridge.specs.Calls.{Happens}
+use Rattle.takes.proofs.Halves.{behind-whole, tail-back}
+use Rattle.bridge.proofs.Halves.{lent-cleared, cleared-back}
+use Rattle.bridge.proofs.Refusing.{number-first, Calm}
+
+module _ (book saved : List ℕ) where
+  pub event-refused : (e : Event) (n : ℕ) → n ≡ refusalOf book saved → (n ≡ 0 → ⊥) → Happens book saved e n saved
+  unfolding eventCall
+  event-refused e n r h =
+      let m = happens (bookOf book) (connectionIn (length (bookOf book)) saved) e in
+      let same : n ≡ numberOr (refusalOf book saved) (m .number) =
+            number-first n (m .number) h ∙ ap (λ (k : ℕ). numberOr k (m .number)) r in
+      rw (← same, ne-eqb n 0 h)
+
+  module _ (calm : Calm book saved) where
+    abbrev lent : List ℕ
+    lent = take (length saved - 520) (drop 520 saved)
+
+    abbrev behind : List ℕ
+    behind = drop gatheringRoom saved
+
+    abbrev connection : Connection
+    connection = connectionIn (length (bookOf book)) saved
+
+    -- the records as they are lent
+    pub lent-held : (n : ℕ) → n ≡ length (bookOf book) → Held n lent
+    lent-held n e = rw (e, behind-whole 520 saved) (calm .inside .held)
+
+    pub cleared-held : (n : ℕ) → n ≡ length (bookOf book)
+      → Held n (take (length (set saved 0 0) - 520) (drop 520 (set saved 0 0)))
+    cleared-held n e = rw (e, lent-cleared saved) (calm .inside .held)
+
+    -- ---- An event that leaves the gathering
+
+    abbrev room : List ℕ
+    room = take gatheringRoom saved
+
+    gathering-stays : storeGathering (gatheringIn room) room ≡ room
+    gathering-stays =
+        let right = calm .inside .room in
+        gathering-kept room (right .long) (right .octets) (octets-take gatheringRoom saved (calm .octets))
+
+    module _ (e : Event) (number : ℕ) (m : List ℕ) where
+      abbrev back : List ℕ
+      back = putMid 520 (length saved - 520) saved m
+
+      not-moved : happens (bookOf book) connection e ≡ record { number = 10; connection = connection }
+        → _≡_ {A = Turned} (record { number = number; records = m }) (record { number = 10; records = behind })
+        → Happens book saved e number back
+      unfolding eventCall numberOr
+      not-moved h t =
+          ap (λ (x : Turned). record { number = x .number; saved = putMid 520 (length saved - 520) saved (x .records) }) t
+          ∙ ap (λ (x : List ℕ). record { number = 10; saved = x })
+              (tail-back 520 saved behind ∙ take-append-drop gatheringRoom saved)
+          ∙ sym (rw (calm .allowed, h))
+
+      moved : (ends : Ends)
+        → happens (bookOf book) connection e ≡ record { number = 0; connection = withEnds ends connection }
+        → _≡_ {A = Turned} (record { number = number; records = m }) (record { number = 0; records = storeEnds ends behind })
+        → Happens book saved e number back
+      unfolding eventCall numberOr store withEnds connectionIn
+      moved ends h t =
+          ap (λ (x : Turned). record { number = x .number; saved = putMid 520 (length saved - 520) saved (x .records) }) t
+          ∙ ap (λ (x : List ℕ). record { number = 0; saved = x })
+              (tail-back 520 saved (storeEnds ends behind)
+               ∙ ap (λ (x : List ℕ). x ++ storeEnds ends behind) (sym gathering-stays))
+          ∙ sym (rw (calm .allowed, h))
+
+    -- Channel up
+    pub up-happens : (event : Event) (n number : ℕ) (m : List ℕ) → event ≡ Up → n ≡ length (bookOf book)
+      → _≡_ {A = Turned} (record { number = number; records = m }) (upped n lent)
+      → Happens book saved event number (putMid 520 (length saved - 520) saved m)
+    unfolding upped happens connectionIn
+    up-happens event n number m is e t = go (told (eqb (awaiting ends) 0))
+      where
+        ends : Ends
+        ends = endsIn (length (bookOf book)) behind
+
+        this : happens (bookOf book) connection event ≡ happens (bookOf book) connection Up
+        this = ap (happens (bookOf book) connection) is
+
+        turned : _≡_ {A = Turned} (record { number = number; records = m }) (upped (length (bookOf book)) behind)
+        turned = t ∙ rw (e, behind-whole 520 saved)
+
+        go : Told? (eqb (awaiting ends) 0) → Happens book saved event number (putMid 520 (length saved - 520) saved m)
+        go (passed p) = not-moved event number m (this ∙ rw p) (turned ∙ rw p)
+        go (failed p) = moved event number m (upIn ends) (this ∙ rw p) (turned ∙ rw p)
+
+    -- Channel down
+    pub down-happens : (event : Event) (s : OurSeid) (number : ℕ) (m : List ℕ) → event ≡ Down s
+      → _≡_ {A = Turned} (record { number = number; records = m }) (downed s (bookOf book) lent)
+      → Happens book saved event number (putMid 520 (length saved - 520) saved m)
+    unfolding downed downedAt happens downAt connectionIn
+    down-happens event s number m is t = go (find s (bookOf book)) refl
+      where
+        ends : Ends
+        ends = endsIn (length (bookOf book)) behind
+
+        this : happens (bookOf book) connection event ≡ happens (bookOf book) connection (Down s)
+        this = ap (happens (bookOf book) connection) is
+
+        turned : _≡_ {A = Turned} (record { number = number; records = m }) (downed s (bookOf book) behind)
+        turned = t ∙ rw (behind-whole 520 saved)
+
+        by-channel : (i : ℕ) (n : Entry) → find s (bookOf book) ≡ known i n → Told? (isUp (endAt ends i .channel))
+          → Happens book saved event number (putMid 520 (length saved - 520) saved m)
+        by-channel i n e (passed p) =
+            moved event number m (set ends i (forgotten (endAt ends i))) (this ∙ rw (e, p)) (turned ∙ rw (e, p))
+        by-channel i n e (failed p) = not-moved event number m (this ∙ rw (e, p)) (turned ∙ rw (e, p))
+
+        go : (f : Found) → find s (bookOf book) ≡ f → Happens book saved event number (putMid 520 (length saved - 520) saved m)
+        go unknown e = not-moved event number m (this ∙ rw e) (turned ∙ rw e)
+        go (known i n) e = by-channel i n e (told (isUp (endAt ends i .channel)))
+
+    -- Link lost
+    pub lost-happens : (event : Event) (n : ℕ) (m : List ℕ) → event ≡ Lost → n ≡ length (bookOf book)
+      → m ≡ allIdle n (take (length (set saved 0 0) - 520) (drop 520 (set saved 0 0)))
+      → Happens book saved event 0 (putMid 520 (length (set saved 0 0) - 520) (set saved 0 0) m)
+    unfolding eventCall numberOr happens store allIdle connectionIn
+    lost-happens event n m is e t =
+        ap (λ (x : List ℕ). record { number = 0; saved = x })
+          (cleared-back saved m (omega (arith, calm .long))
+           ∙ ap (λ (x : List ℕ). storeGathering none (take gatheringRoom saved) ++ x)
+               (t ∙ ap₂ allIdle e (lent-cleared saved)))
+        ∙ sym (ap (eventCall book saved) is ∙ rw (calm .allowed))

@@ -1,0 +1,9 @@
+pub mod Halves
+pub mod Refusing
+pub mod Asked
+pub mod Happened
+pub mod Freshened
+pub mod Unique
+pub mod SettingsShown
+pub mod AllHosts
+pub mod ShutOut

@@ -1,0 +1,119 @@
+-- The tests that stand before every call, in their order: the first that fails gives the number, and what passed all of them is a
+-- right book and a right saved area.
+use Prim.Native.Nat.{ℕ, zero, suc, _≤_, _<_}
+use native.Mathlib.Omega.{arith}
+use mathlib.Core.Path.{_≡_, refl, sym, ap, _∙_}
+use mathlib.Core.List.{List}
+use mathlib.Core.Bool.{Bool, true, false, not}
+use lib.Dec.{ltb}
+use lib.ListN.{length, getD}
+use borrow.Author.Tests.{lt-ltb, le-ltb, ltb-false, eq-eqb, ne-eqb}
+use Rattle.rules.specs.Octets.{if_then_else_, octetsIn}
+use Rattle.rules.specs.Book.{bookNumber, bookOf}
+use Rattle.rules.specs.Packets.{sizeRight}
+use Rattle.rules.specs.Saved.{gatheringRoom, areaFor, savedRight}
+use Rattle.rules.specs.Host.{numberOr, savedNumber, refusalOf, packetRefusal, Told, nothingSaid, Answered, packetCall}
+use Rattle.rules.proofs.SavedReads.{octets-known}
+use Rattle.rules.proofs.SavedStaysRight.{right-long}
+use Rattle.legal.proofs.RightSaved.{Right, right-saved}
+use Rattle.takes.specs.Taken.{Takes, taken}
+
+-- ---- A number that is not 0 goes before what is tested after it
+
+pub number-first : (n next : ℕ) → (n ≡ 0 → ⊥) → n ≡ numberOr n next
+unfolding numberOr
+number-first zero next h = absurd (h refl)
+number-first (suc n) next h = refl
+
+pub book-first : (book : List ℕ) (n next : ℕ) → n ≡ bookNumber book → (n ≡ 0 → ⊥) → n ≡ numberOr (bookNumber book) next
+book-first book n next e h = number-first n next h ∙ ap (λ (k : ℕ). numberOr k next) e
+
+pub book-passed : (book : List ℕ) (next : ℕ) → bookNumber book ≡ 0 → next ≡ numberOr (bookNumber book) next
+unfolding numberOr
+book-passed book next e = rw e
+
+module _ (book saved : List ℕ) where
+  pub saved-decides : (b : Bool) → b ≡ savedRight (bookOf book) saved → (if b then 0 else 12) ≡ savedNumber book saved
+  unfolding savedNumber
+  saved-decides b e = rw (← e)
+
+  module _ (size : ℕ) (reply : List ℕ) (right : bookNumber book ≡ 0) where
+    pub size-refused : sizeRight size ≡ false → 8 ≡ packetRefusal book size saved reply
+    unfolding packetRefusal numberOr
+    size-refused wrong = rw (right, wrong)
+
+    pub reply-refused : sizeRight size ≡ true → length reply < 64 → 9 ≡ packetRefusal book size saved reply
+    unfolding packetRefusal numberOr
+    reply-refused sized short = rw (right, sized, lt-ltb (length reply) 64 short)
+
+    pub saved-last : sizeRight size ≡ true → 64 ≤ length reply → savedNumber book saved ≡ packetRefusal book size saved reply
+    unfolding packetRefusal numberOr
+    saved-last sized room = rw (right, sized, le-ltb (length reply) 64 room)
+
+-- ---- Nothing refused
+
+none-saved : (b : Bool) → _≡_ {A = ℕ} (if b then 0 else 12) 0 → b ≡ true
+none-saved true e = refl
+none-saved false e = absurd (omega arith)
+
+none-first : (n : ℕ) (b : Bool) → numberOr n (if b then 0 else 12) ≡ 0 → (n ≡ 0) × (b ≡ true)
+unfolding numberOr
+none-first zero b e = (refl, none-saved b e)
+none-first (suc n) b e = absurd (omega arith)
+
+pub none-refused : (book saved : List ℕ) → refusalOf book saved ≡ 0
+  → (bookNumber book ≡ 0) × (savedRight (bookOf book) saved ≡ true)
+unfolding refusalOf savedNumber
+none-refused book saved e = none-first (bookNumber book) (savedRight (bookOf book) saved) e
+
+-- what a call may count on then
+pub record Calm (book saved : List ℕ) : Type 0 where
+  pub allowed : refusalOf book saved ≡ 0
+  pub numbered : bookNumber book ≡ 0
+  pub octets : octetsIn saved ≡ true
+  pub long : gatheringRoom ≤ length saved
+  pub inside : Right book saved
+
+pub calm : (book saved : List ℕ) (n : ℕ) → ((i : ℕ) → getD saved i 0 < 256) → n ≡ refusalOf book saved → n ≡ 0
+  → Calm book saved
+unfolding areaFor
+calm book saved n known e zeroed =
+    let allowed = sym e ∙ zeroed in
+    let both = none-refused book saved allowed in
+    let octets = octets-known saved known in
+    record {
+      allowed = allowed;
+      numbered = both .0;
+      octets = octets;
+      long = omega (arith, right-long (bookOf book) saved (both .1));
+      inside = right-saved book saved octets (both .1)
+    }
+
+-- ---- A packet that is not refused
+
+none-packet : (a b c : Bool) → _≡_ {A = ℕ} (if a then 8 else if b then 9 else if c then 0 else 12) 0 → (b ≡ false) × (c ≡ true)
+none-packet true b c e = absurd (omega arith)
+none-packet false true c e = absurd (omega arith)
+none-packet false false c e = (refl, none-saved c e)
+
+first-none : (n next : ℕ) → numberOr n next ≡ 0 → (n ≡ 0) × (next ≡ 0)
+unfolding numberOr
+first-none zero next e = (refl, e)
+first-none (suc n) next e = absurd (omega arith)
+
+module _ (book : List ℕ) (size : ℕ) (saved p reply : List ℕ) (n : ℕ) (e : n ≡ packetRefusal book size saved reply) where
+  pub may-take : n ≡ 0 → Takes book saved reply
+  unfolding packetRefusal savedNumber
+  may-take zeroed =
+      let tests = first-none (bookNumber book) _ (sym e ∙ zeroed) in
+      let passed = none-packet (not (sizeRight size)) (ltb (length reply) 64) (savedRight (bookOf book) saved) (tests .1) in
+      record { right = tests .0; legal = passed .1; room = ltb-false (length reply) 64 (passed .0) }
+
+  pub packet-refused : (told : Told) → (n ≡ 0 → ⊥) → told ≡ nothingSaid n
+    → _≡_ {A = Answered} (record { told = told; saved = saved; reply = reply }) (packetCall book size saved p reply)
+  unfolding packetCall
+  packet-refused told h t = rw (← e, ne-eqb n 0 h, t)
+
+  pub packet-taken : (a : Answered) → n ≡ 0 → a ≡ taken book size saved p reply → a ≡ packetCall book size saved p reply
+  unfolding packetCall taken
+  packet-taken a zeroed t = rw (← e, eq-eqb n 0 zeroed) t

@@ -1,0 +1,31 @@
+-- The contracts of the public calls, each one equation: the answer and every lent area at exit are what the definition of the call
+-- makes of the inputs.
+use Prim.Native.Nat.{ℕ}
+use mathlib.Core.Path.{_≡_}
+use mathlib.Core.List.{List}
+use Rattle.rules.specs.Host.{Kept, freshCall, Answered, packetCall, eventCall, Heard, delayCall, cutCall}
+use Rattle.rules.specs.Wires.{cutBy}
+use Rattle.rules.specs.Answers.{toldBy, heardBy}
+use Rattle.rules.specs.declared.OurSeid.{OurSeid}
+use Rattle.rules.specs.declared.Event.{Event}
+use Rattle.rules.specs.declared.Told.{Told as ToldBy}
+use Rattle.rules.specs.declared.Heard.{Heard as HeardBy}
+use Rattle.rules.specs.declared.Piece.{Piece}
+
+abbrev pub Freshens : List ℕ → List ℕ → ℕ → List ℕ → Type 0
+Freshens book saved number saved′ = _≡_ {A = Kept} (record { number = number; saved = saved′ }) (freshCall book saved)
+
+abbrev pub Takes : List ℕ → ℕ → List ℕ → List ℕ → List ℕ → ToldBy → List ℕ → List ℕ → Type 0
+Takes book size saved packet reply told saved′ reply′ =
+    _≡_ {A = Answered} (record { told = toldBy told; saved = saved′; reply = reply′ }) (packetCall book size saved packet reply)
+
+abbrev pub Happens : List ℕ → List ℕ → Event → ℕ → List ℕ → Type 0
+Happens book saved e number saved′ = _≡_ {A = Kept} (record { number = number; saved = saved′ }) (eventCall book saved e)
+
+abbrev pub Hears : List ℕ → List ℕ → OurSeid → HeardBy → Type 0
+Hears book saved s heard = heardBy heard ≡ delayCall book saved s
+
+abbrev pub Cuts : ℕ → ℕ → ℕ → ℕ → List ℕ → ℕ → List ℕ → Piece → List ℕ → Type 0
+Cuts size label kind signal payload index area piece area′ =
+    cutBy piece area′
+    ≡ cutCall size (record { label = label; type = kind; signal = signal; payload = payload }) index area

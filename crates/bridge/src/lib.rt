@@ -1,0 +1,156 @@
+// The public calls. None asks anything of its caller: every book, size, saved connection, packet and area gets an answer, and a
+// refusal leaves every octet of every lent area. The numbers are document 01's: 1 to 7 the book, 8 the packet size, 9 an area too
+// short, 10 an event or a question that does not apply, 11 a message that is not to be cut, 12 the saved connection, 0 done.
+mod refusals;
+mod delays;
+
+use rules::Delay;
+use rules::Event;
+use rules::Heard;
+use rules::OurSeid;
+use rules::Piece;
+use rules::Place;
+use rules::Told;
+
+ghost use mathlib.Core.Path.{_≡_};
+ghost use Rattle.rules.specs.Host.{checkCall, settingsCall, packetsCall};
+ghost use Rattle.bridge.specs.Calls.{Freshens, Takes, Happens, Hears, Cuts};
+
+// Whether a book is right: 0, or its number.
+pub fn check(book: &[u8]) -> u8
+    ensures { λ r. ⌜ r ≡ checkCall (now (book .entry)) ⌝ }
+{
+    book::checks::check(book)
+}
+
+// Begins: `saved` holds a fresh connection over the book, every endpoint idle and nothing gathered. An area too short is 12.
+pub fn fresh(book: &[u8], saved: &mut [u8]) -> u8
+    ensures { λ r. ⌜ Freshens (now (book .entry)) (now (saved .entry)) r (now (saved .exit)) ⌝ }
+{
+    let number = check(book);
+    if number != 0 {
+        return number;
+    }
+    if saved.len() < 520 + book::places::count(book) * 80 {
+        return 12;
+    }
+    saved[0] = 0;
+    begins::begin(book, &mut saved[520..]);
+    0
+}
+
+// Takes a packet from the far end. The reply's payload is at the front of `reply`, of which 64 octets are asked for.
+pub fn packet(book: &[u8], size: usize, saved: &mut [u8], packet: &[u8], reply: &mut [u8]) -> Told
+    ensures { λ r. ⌜ Takes (now (book .entry)) size (now (saved .entry)) (now (packet .entry)) (now (reply .entry))
+        r (now (saved .exit)) (now (reply .exit)) ⌝ }
+{
+    let number = refusals::packet_refusal(book, size, saved, reply);
+    if number != 0 {
+        return takes::nothing(number);
+    }
+    takes::take(book, size, saved, packet, reply)
+}
+
+// Takes a link event: the awaited channel is up, the channel of one of our SEIDs is down, the link is lost.
+pub fn event(book: &[u8], saved: &mut [u8], event: Event) -> u8
+    ensures { λ r. ⌜ Happens (now (book .entry)) (now (saved .entry)) event r (now (saved .exit)) ⌝ }
+{
+    let number = refusals::refusal(book, saved);
+    if number != 0 {
+        return number;
+    }
+    match event {
+        Event::Up => links::up(&mut saved[520..], book::places::count(book)),
+        Event::Down(seid) => links::down(book, &mut saved[520..], seid),
+        Event::Lost => {
+            saved[0] = 0;
+            links::lost(&mut saved[520..], book::places::count(book));
+            0
+        }
+    }
+}
+
+// The settings of an endpoint where they stand: its configuration in the saved area, or what it offers in the book. Empty where the
+// question is refused.
+pub fn settings<'a>(book: &'a [u8], saved: &'a [u8], seid: OurSeid) -> &'a [u8]
+    ensures { λ r. ⌜ now r ≡ settingsCall (now (book .entry)) (now (saved .entry)) seid .part ⌝ }
+{
+    if refusals::refusal(book, saved) != 0 {
+        return &book[0..0];
+    }
+    let place = book::places::place(book, seid);
+    match place {
+        Place::Unknown => &book[0..0],
+        Place::Known {
+            index,
+            kind: _,
+            from,
+            size,
+        } => {
+            let config = saved::records::config(&saved[520..], index);
+            if config.len() == 0 {
+                octets::part(book, from, size)
+            } else {
+                config
+            }
+        }
+    }
+}
+
+// The number of that question.
+pub fn settings_told(book: &[u8], saved: &[u8], seid: OurSeid) -> u8
+    ensures { λ r. ⌜ r ≡ settingsCall (now (book .entry)) (now (saved .entry)) seid .number ⌝ }
+{
+    let number = refusals::refusal(book, saved);
+    if number != 0 {
+        return number;
+    }
+    let place = book::places::place(book, seid);
+    match place {
+        Place::Unknown => 10,
+        Place::Known {
+            index: _,
+            kind: _,
+            from: _,
+            size: _,
+        } => 0,
+    }
+}
+
+// The delay that the far end reported for an endpoint.
+pub fn delay(book: &[u8], saved: &[u8], seid: OurSeid) -> Heard
+    ensures { λ r. ⌜ Hears (now (book .entry)) (now (saved .entry)) seid r ⌝ }
+{
+    let number = refusals::refusal(book, saved);
+    if number != 0 {
+        return delays::heard(number, Delay::Unreported);
+    }
+    let place = book::places::place(book, seid);
+    match place {
+        Place::Unknown => delays::heard(10, Delay::Unreported),
+        Place::Known {
+            index,
+            kind: _,
+            from: _,
+            size: _,
+        } => {
+            let e = saved::records::get(&saved[520..], index);
+            let delay = e.delay;
+            delays::heard(0, delay)
+        }
+    }
+}
+
+// How many packets a payload of this length takes, 0 where the size or the length is refused.
+pub fn packets(size: usize, length: usize) -> usize
+    ensures { λ r. ⌜ r ≡ packetsCall size length ⌝ }
+{
+    wire::cuts::packets(size, length)
+}
+
+// Writes packet number `index` of a message, counted from 0, at the front of `area`.
+pub fn cut(size: usize, label: u8, kind: u8, signal: u8, payload: &[u8], index: usize, area: &mut [u8]) -> Piece
+    ensures { λ r. ⌜ Cuts size label kind signal (now (payload .entry)) index (now (area .entry)) r (now (area .exit)) ⌝ }
+{
+    wire::cuts::cut(size, label, kind, signal, payload, index, area)
+}
