@@ -5,6 +5,7 @@ use mathlib.Core.List.{[], _∷_}
 use native.Mathlib.Omega.{arith}
 use lib.ListN.{replicate}
 use Rattle.rules.specs.Computed.{computed}
+use Rattle.rules.specs.Elements.{items, stored}
 use Rattle.rules.specs.Book.{bookOf}
 use Rattle.rules.specs.Endpoints.{Ends}
 use Rattle.rules.specs.Commands.{answer, mayStart}
@@ -55,3 +56,10 @@ pub size-refused : packetCall traceBook 47 [] (0x10 ∷ 0x01 ∷ []) (replicate 
   ≡ record { told = nothingSaid 8; saved = []; reply = replicate 64 0xEE }
 unfolding computed traceBook
 size-refused = refused-packet traceBook 47 [] (0x10 ∷ 0x01 ∷ []) (replicate 64 0xEE) (λ (e : _≡_ {A = ℕ} 8 0). omega arith)
+
+-- elements asked in the order 8, 7, 1 are stored ascending
+pub stored-ascending :
+  stored (items (0x08 ∷ 0x00 ∷ 0x07 ∷ 0x06 ∷ 0x00 ∷ 0x00 ∷ 0x21 ∷ 0x15 ∷ 0x02 ∷ 0x35 ∷ 0x01 ∷ 0x00 ∷ []))
+    ≡ 0x01 ∷ 0x00 ∷ 0x07 ∷ 0x06 ∷ 0x00 ∷ 0x00 ∷ 0x21 ∷ 0x15 ∷ 0x02 ∷ 0x35 ∷ 0x08 ∷ 0x00 ∷ []
+unfolding computed
+stored-ascending = refl
