@@ -2,15 +2,15 @@
 -- definition of the call has them, so by induction a host's answers and areas are those of the definitions, and what is proved of
 -- these is carried over.
 use Prim.Native.Nat.{ℕ}
-use mathlib.Core.Path.{_≡_, refl, sym, ap, subst, _∙_}
-use mathlib.Core.List.{List, [], _∷_}
+use mathlib.Core.Path.{_≡_, refl, sym, ap, _∙_}
+use mathlib.Core.List.{List, _∷_}
 use mathlib.Core.Bool.{true, false}
 use mathlib.Core.Option.{none}
 use lib.ListN.{length}
 use Rattle.rules.specs.Octets.{some-of}
 use Rattle.rules.specs.Book.{bookNumber, bookOf}
 use Rattle.rules.specs.Saved.{connectionIn, savedRight}
-use Rattle.rules.specs.Host.{Kept, Answered, Heard, Cut}
+use Rattle.rules.specs.Host.{Heard, Cut}
 use Rattle.rules.specs.Sessions.{Call, Answer, number, heard, cutOff, Done, kept, answered, asked, call, answers, after}
 use Rattle.rules.specs.Alike.{alike, restrained, Begins, noneReported}
 use Rattle.rules.proofs.SavedStaysRight.{always-legal}

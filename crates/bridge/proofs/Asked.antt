@@ -2,12 +2,12 @@
 -- record behind the gathering tells the configuration and the delay.
 use Prim.Native.Nat.{ℕ, _+_, _*_, _-_, _≤_}
 use native.Mathlib.Omega.{arith}
-use mathlib.Core.Path.{_≡_, refl, sym, ap, _∙_, subst}
+use mathlib.Core.Path.{_≡_, refl, sym, ap, _∙_}
 use mathlib.Core.List.{List, [], _∷_}
 use lib.ListN.{length, take, drop}
 use borrow.Author.Tests.{ne-eqb}
 use Rattle.rules.specs.Octets.{if_then_else_, isEmpty}
-use Rattle.rules.specs.Book.{bookOf, find}
+use Rattle.rules.specs.Book.{bookOf}
 use Rattle.rules.specs.Walks.{placeIn, foundBy}
 use Rattle.rules.specs.Endpoints.{Endpoint, endAt}
 use Rattle.rules.specs.Saved.{gatheringRoom, recordRoom, endsIn, connectionIn}

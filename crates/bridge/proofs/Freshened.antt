@@ -1,4 +1,4 @@
--- A fresh connection over the whole saved area: the mark of the gathering is set to none, and the records behind it are begun.
+-- A fresh connection over the whole saved area: the records behind the gathering are begun, and its mark is set to none.
 use Prim.Native.Nat.{ℕ, _+_, _*_, _-_, _≤_, _<_}
 use native.Mathlib.Omega.{arith}
 use mathlib.Core.Path.{_≡_, sym, ap, _∙_}
@@ -13,7 +13,8 @@ use Rattle.rules.specs.Saved.{gatheringRoom, recordRoom, areaFor, storeEnds, st
 use Rattle.rules.specs.Host.{numberOr, checkCall, freshCall}
 use Rattle.rules.proofs.SavedReads.{records-room}
 use Rattle.bridge.specs.Calls.{Freshens}
-use Rattle.bridge.proofs.Halves.{lent-cleared, cleared-back}
+use Rattle.takes.proofs.Halves.{behind-whole}
+use Rattle.bridge.proofs.Halves.{cleared-back}
 use Rattle.bridge.proofs.Refusing.{book-first}
 
 module _ (book saved : List ℕ) where
@@ -31,16 +32,16 @@ module _ (book saved : List ℕ) where
       unfolding areaFor
       area = omega arith
 
-      pub lent-room : length (bookOf book) * recordRoom ≤ length (take (length (set saved 0 0) - 520) (drop 520 (set saved 0 0)))
-      lent-room = rw (lent-cleared saved) (records-room (length (bookOf book)) saved area)
+      pub lent-room : length (bookOf book) * recordRoom ≤ length (take (length saved - 520) (drop 520 saved))
+      lent-room = rw (behind-whole 520 saved) (records-room (length (bookOf book)) saved area)
 
       pub freshened : (m : List ℕ)
-        → m ≡ storeEnds (freshConnection (bookOf book) .ends) (take (length (set saved 0 0) - 520) (drop 520 (set saved 0 0)))
-        → Freshens book saved 0 (putMid 520 (length (set saved 0 0) - 520) (set saved 0 0) m)
+        → m ≡ storeEnds (freshConnection (bookOf book) .ends) (take (length saved - 520) (drop 520 saved))
+        → Freshens book saved 0 (set (putMid 520 (length saved - 520) saved m) 0 0)
       unfolding freshCall checkCall numberOr store freshConnection
       freshened m t =
           ap (λ (x : List ℕ). record { number = 0; saved = x })
             (cleared-back saved m (omega arith)
-             ∙ ap (λ (x : List ℕ). storeGathering none (take gatheringRoom saved) ++ x) 
-               (t ∙ ap (storeEnds (freshConnection (bookOf book) .ends)) (lent-cleared saved)))
+             ∙ ap (λ (x : List ℕ). storeGathering none (take gatheringRoom saved) ++ x)
+                 (t ∙ ap (storeEnds (freshConnection (bookOf book) .ends)) (behind-whole 520 saved)))
           ∙ sym (rw (right, le-ltb (length saved) (areaFor (length (bookOf book))) area))

@@ -22,7 +22,7 @@ use Rattle.saved.specs.Held.{Held}
 use Rattle.links.specs.Events.{Turned, upped, downed, downedAt, allIdle}
 use Rattle.bridge.specs.Calls.{Happens}
 use Rattle.takes.proofs.Halves.{behind-whole, tail-back}
-use Rattle.bridge.proofs.Halves.{lent-cleared, cleared-back}
+use Rattle.bridge.proofs.Halves.{cleared-back}
 use Rattle.bridge.proofs.Refusing.{number-first, Calm}
 
 module _ (book saved : List ℕ) where
@@ -47,10 +47,6 @@ module _ (book saved : List ℕ) where
     -- the records as they are lent
     pub lent-held : (n : ℕ) → n ≡ length (bookOf book) → Held n lent
     lent-held n e = rw (e, behind-whole 520 saved) (calm .inside .held)
-
-    pub cleared-held : (n : ℕ) → n ≡ length (bookOf book)
-      → Held n (take (length (set saved 0 0) - 520) (drop 520 (set saved 0 0)))
-    cleared-held n e = rw (e, lent-cleared saved) (calm .inside .held)
 
     -- ---- An event that leaves the gathering
 
@@ -135,13 +131,11 @@ module _ (book saved : List ℕ) where
         go (known i n) e = by-channel i n e (told (isUp (endAt ends i .channel)))
 
     -- Link lost
-    pub lost-happens : (event : Event) (n : ℕ) (m : List ℕ) → event ≡ Lost → n ≡ length (bookOf book)
-      → m ≡ allIdle n (take (length (set saved 0 0) - 520) (drop 520 (set saved 0 0)))
-      → Happens book saved event 0 (putMid 520 (length (set saved 0 0) - 520) (set saved 0 0) m)
+    pub lost-happens : (event : Event) (n : ℕ) (m : List ℕ) → event ≡ Lost → n ≡ length (bookOf book) → m ≡ allIdle n lent
+      → Happens book saved event 0 (set (putMid 520 (length saved - 520) saved m) 0 0)
     unfolding eventCall numberOr happens store allIdle connectionIn
     lost-happens event n m is e t =
         ap (λ (x : List ℕ). record { number = 0; saved = x })
           (cleared-back saved m (omega (arith, calm .long))
-           ∙ ap (λ (x : List ℕ). storeGathering none (take gatheringRoom saved) ++ x)
-               (t ∙ ap₂ allIdle e (lent-cleared saved)))
+           ∙ ap (λ (x : List ℕ). storeGathering none room ++ x) (t ∙ ap₂ allIdle e (behind-whole 520 saved)))
         ∙ sym (ap (eventCall book saved) is ∙ rw (calm .allowed))

@@ -2,12 +2,11 @@
 -- each of the five would give another one at the step that is marked.
 use Prim.Native.Nat.{ℕ}
 use mathlib.Core.Path.{_≡_, refl, _∙_}
-use mathlib.Core.List.{List, [], _∷_, _++_}
-use mathlib.Core.Bool.{false}
+use mathlib.Core.List.{List, [], _∷_}
 use lib.ListN.{replicate}
 use Rattle.rules.specs.Computed.{computed}
 use Rattle.rules.specs.Packets.{Message}
-use Rattle.rules.specs.Sessions.{Call, fresh, packet, event, cut, delay, Answer, number, told, heard, cutOff}
+use Rattle.rules.specs.Sessions.{Call, fresh, packet, cut, Answer, number, told, cutOff}
 use Rattle.rules.specs.Table.{traceBook, setConfiguration1}
 use Rattle.bridge.specs.Hosts.{Runs}
 use Rattle.bridge.proofs.AllHosts.{defined}

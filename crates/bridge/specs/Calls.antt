@@ -1,9 +1,9 @@
--- The contracts of the public calls, each one equation: the answer and every lent area at exit are what the definition of the call
--- makes of the inputs.
+-- The contracts of the public calls, each one equation: the answer and every lent area at exit are what the definition of the
+-- call makes of the inputs.
 use Prim.Native.Nat.{ℕ}
 use mathlib.Core.Path.{_≡_}
 use mathlib.Core.List.{List}
-use Rattle.rules.specs.Host.{Kept, freshCall, Answered, packetCall, eventCall, Heard, delayCall, cutCall}
+use Rattle.rules.specs.Host.{Kept, freshCall, Answered, packetCall, eventCall, delayCall, cutCall}
 use Rattle.rules.specs.Wires.{cutBy}
 use Rattle.rules.specs.Answers.{toldBy, heardBy}
 use Rattle.rules.specs.declared.OurSeid.{OurSeid}

@@ -34,8 +34,8 @@ pub fn fresh(book: &[u8], saved: &mut [u8]) -> u8
     if saved.len() < 520 + book::places::count(book) * 80 {
         return 12;
     }
-    saved[0] = 0;
     begins::begin(book, &mut saved[520..]);
+    saved[0] = 0;
     0
 }
 
@@ -63,15 +63,15 @@ pub fn event(book: &[u8], saved: &mut [u8], event: Event) -> u8
         Event::Up => links::up(&mut saved[520..], book::places::count(book)),
         Event::Down(seid) => links::down(book, &mut saved[520..], seid),
         Event::Lost => {
-            saved[0] = 0;
             links::lost(&mut saved[520..], book::places::count(book));
+            saved[0] = 0;
             0
         }
     }
 }
 
-// The settings of an endpoint where they stand: its configuration in the saved area, or what it offers in the book. Empty where the
-// question is refused.
+// The settings of an endpoint where they stand: its configuration in the saved area, or what it offers in the book. Empty where
+// the question is refused.
 pub fn settings<'a>(book: &'a [u8], saved: &'a [u8], seid: OurSeid) -> &'a [u8]
     ensures { λ r. ⌜ now r ≡ settingsCall (now (book .entry)) (now (saved .entry)) seid .part ⌝ }
 {

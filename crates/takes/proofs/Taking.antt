@@ -2,7 +2,7 @@
 -- moves are stored side by side, as the definition of the call stores them at once.
 use Prim.Native.Nat.{ℕ, _+_, _≤_}
 use mathlib.Core.Path.{_≡_, sym, ap, subst, _∙_}
-use mathlib.Core.List.{List, [], _++_}
+use mathlib.Core.List.{List, _++_}
 use mathlib.Core.Bool.{true}
 use mathlib.Core.Option.{Option, none, some}
 use native.Mathlib.Omega.{arith}
@@ -10,11 +10,10 @@ use lib.ListN.{length, take, drop, length-append}
 use lib.Seq.{take-at, drop-at}
 use Rattle.rules.specs.Octets.{front, octetsIn}
 use Rattle.rules.specs.Book.{bookOf}
-use Rattle.rules.specs.Packets.{Message, Gathering, gather}
+use Rattle.rules.specs.Packets.{Message, gather}
 use Rattle.rules.specs.Endpoints.{Ends}
-use Rattle.rules.specs.Saved.{gatheringRoom, gatheringAt, gatheringIn, storeGathering, endsIn, storeEnds, connectionIn, store}
-use Rattle.rules.specs.Commands.{answer}
-use Rattle.rules.specs.Host.{Told, nothingSaid, toldOf, payloadOf, turnOf, takes, Answered}
+use Rattle.rules.specs.Saved.{gatheringRoom, gatheringAt, gatheringIn, endsIn, connectionIn, store}
+use Rattle.rules.specs.Host.{Told, nothingSaid, turnOf, takes, Answered}
 use Rattle.rules.specs.Wires.{nextOf}
 use Rattle.rules.specs.declared.Next.the-variants.{Single, Complete}
 use Rattle.rules.proofs.SavedReads.{ends-kept}

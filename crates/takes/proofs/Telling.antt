@@ -4,7 +4,6 @@ use Prim.Native.Nat.{ℕ, _-_}
 use mathlib.Core.Path.{_≡_, refl, ap, subst, _∙_}
 use mathlib.Core.List.{List, _++_}
 use lib.ListN.{length, take, drop}
-use Rattle.rules.specs.Octets.{if_then_else_}
 use Rattle.rules.specs.Book.{bookOf}
 use Rattle.rules.specs.Packets.{Message}
 use Rattle.rules.specs.Saved.{endsIn}

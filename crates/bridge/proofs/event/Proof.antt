@@ -1,10 +1,9 @@
 -- `event` meets its contract: the refusal, then what each event does to the records; link loss ends the gathering too.
 use borrow.Author.Needs.{needs}
 use native.Mathlib.Omega.{arith}
-use mathlib.Core.Path.{refl, _∙_}
-use lib.ListN.{length-set}
+use mathlib.Core.Path.{refl}
 use Rattle.bridge.proofs.Refusing.{Calm, calm}
-use Rattle.bridge.proofs.Happened.{event-refused, lent-held, cleared-held, up-happens, down-happens, lost-happens}
+use Rattle.bridge.proofs.Happened.{event-refused, lent-held, up-happens, down-happens, lost-happens}
 use Rattle.bridge.proofs.event.Statement.{statement}
 use Rattle.bridge.proofs.event.Tie as tie
 
@@ -75,18 +74,11 @@ down-requires c κs =
 enum-told-2 : tie.Need-enum-told-2
 enum-told-2 c = search needs
 
-slice-write-saved : tie.Need-slice-write-saved
-slice-write-saved c = let q = quiet (c .before .before) in omega (arith, q .long)
-
 sub-lost : tie.Need-sub-lost
-sub-lost c =
-    let passed = c .before .before in
-    omega (arith, quiet passed .long, length-set (passed .before .before .before .before .before .args .saved .now) 0 0)
+sub-lost c = quiet (c .before .before) .long
 
 part-lost-start : tie.Need-part-lost-start
-part-lost-start c =
-    let passed = c .before .before in
-    omega (arith, quiet passed .long, length-set (passed .before .before .before .before .before .args .saved .now) 0 0)
+part-lost-start c = quiet (c .before .before) .long
 
 part-lost-end : tie.Need-part-lost-end
 part-lost-end c = search needs
@@ -98,7 +90,11 @@ lost-requires : tie.Need-lost-requires
 lost-requires c κs =
     let passed = c .before .before .before .before in
     let args = passed .before .before .before .before .before .args in
-    cleared-held (args .book .now) (args .saved .now) (quiet passed) (c .count2 .result) (c .count2 .ensures)
+    lent-held (args .book .now) (args .saved .now) (quiet passed) (c .count2 .result) (c .count2 .ensures)
+
+slice-write-saved : tie.Need-slice-write-saved
+slice-write-saved c =
+    let q = quiet (c .before .before .before .before .before .before .before) in omega (arith, q .long, c .before .saved3 .given .1)
 
 -- ---- What each comes to
 
@@ -128,9 +124,7 @@ returns-3 c =
       (done .down .result) (done .down .last .1 .0) (told .event .given .1) (done .down .ensures)
 
 same-length-4 : tie.Need-same-length-4
-same-length-4 c =
-    let passed = c .before .before .before .before .before .before .before in
-    c .before .saved3 .given .1 ∙ length-set (passed .before .before .before .before .before .args .saved .now) 0 0
+same-length-4 c = search needs
 
 returns-4 : tie.Need-returns-4
 returns-4 c =
@@ -161,12 +155,12 @@ event-spec =
     part-down-end
     down-requires
     enum-told-2
-    slice-write-saved
     sub-lost
     part-lost-start
     part-lost-end
     count-requires-2
     lost-requires
+    slice-write-saved
     same-length-2
     returns-2
     same-length-3

@@ -1,9 +1,8 @@
--- `fresh` meets its contract: the book's number, then the area's length, then the gathering's mark and the records behind it.
+-- `fresh` meets its contract: the book's number, then the area's length, then the records and the gathering's mark.
 use borrow.Author.Needs.{needs}
 use Prim.Native.Nat.{_≤_}
 use native.Mathlib.Omega.{arith}
 use mathlib.Core.Path.{_≡_, sym, _∙_}
-use lib.ListN.{length-set}
 use Rattle.rules.specs.Host.{checkCall}
 use Rattle.rules.proofs.RightBook.{right-book}
 use Rattle.bridge.proofs.Freshened.{fresh-refused, short-fresh, lent-room, freshened}
@@ -47,18 +46,11 @@ returns-2 c =
     short-fresh (args .book .now) (args .saved .now) (right (counted .before)) (counted .count .result) (counted .count .ensures)
       (c .if2 .taken)
 
-slice-write-saved : tie.Need-slice-write-saved
-slice-write-saved c = search needs
-
 sub-begin : tie.Need-sub-begin
-sub-begin c =
-    let saved = c .before .before .before .before .before .before .args .saved .now in
-    omega (arith, c .if2 .left, length-set saved 0 0)
+sub-begin c = search needs
 
 part-begin-start : tie.Need-part-begin-start
-part-begin-start c =
-    let saved = c .before .before .before .before .before .before .args .saved .now in
-    omega (arith, c .if2 .left, length-set saved 0 0)
+part-begin-start c = search needs
 
 part-begin-end : tie.Need-part-begin-end
 part-begin-end c = search needs
@@ -73,10 +65,11 @@ begin-requires c κs =
       lent-room (args .book .now) (args .saved .now) (right (counted .before)) (counted .count .result) (counted .count .ensures)
         (long .if2 .left))
 
+slice-write-saved : tie.Need-slice-write-saved
+slice-write-saved c = search needs
+
 same-length : tie.Need-same-length
-same-length c =
-    let counted = c .before .before .before .before .before in
-    c .before .saved .given .1 ∙ length-set (counted .before .before .before .before .before .args .saved .now) 0 0
+same-length c = search needs
 
 returns-3 : tie.Need-returns-3
 returns-3 c =
@@ -97,10 +90,10 @@ fresh-spec =
     mul-if2
     add-if2
     returns-2
-    slice-write-saved
     sub-begin
     part-begin-start
     part-begin-end
     begin-requires
+    slice-write-saved
     same-length
     returns-3)

@@ -6,7 +6,6 @@ use native.Mathlib.Omega.{arith}
 use lib.ListN.{length, take, drop}
 use lib.Seq.{take-at}
 use Rattle.rules.specs.Octets.{front}
-use Rattle.rules.specs.Packets.{Message}
 use Rattle.rules.proofs.SavedReads.{front-length}
 use Rattle.saved.specs.Serves.{Serves}
 use Rattle.takes.specs.Taken.{joined, served}

@@ -1,5 +1,4 @@
 -- `take` meets its contract: each answer of the gathering comes with the message that is complete, or with none.
-use Prim.Native.Nat.{ℕ}
 use mathlib.Core.Path.{_≡_, refl, sym, _∙_}
 use mathlib.Core.Bool.{true}
 use lib.ListN.{take}
