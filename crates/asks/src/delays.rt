@@ -6,7 +6,7 @@ use saved::moves::delayed;
 use saved::records::config;
 use saved::records::get;
 use saved::records::set;
-use saved::tests::is_set;
+use states::is_set;
 
 ghost use mathlib.Core.Path.{_≡_};
 ghost use mathlib.Core.Bool.{_&&_};

@@ -5,7 +5,7 @@ use rules::Said;
 use saved::moves::opened;
 use saved::records::get;
 use saved::records::set;
-use saved::tests::is_configured;
+use states::is_configured;
 
 ghost use mathlib.Core.Path.{_≡_};
 ghost use Prim.Native.Nat.{_*_, _≤_};
