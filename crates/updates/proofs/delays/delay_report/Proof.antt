@@ -21,10 +21,10 @@ use Rattle.saved.specs.declared.records.Endpoint.{Endpoint as Head}
 use Rattle.saved.specs.Moved.{delayedHead}
 use Rattle.saved.specs.Records.{loaded, endpointOf, recordAt, configAt}
 use Rattle.replies.proofs.Serving.{Meets, config-short}
 use Rattle.asks.proofs.Meeting.{exactly, right-here, meets-here, says-code, did-refuse, did-answer}
-use Rattle.asks.proofs.Moving.{did-moved}
-use Rattle.asks.proofs.delays.delay_report.Statement.{statement}
-use Rattle.asks.proofs.delays.delay_report.Tie as tie
+use Rattle.updates.proofs.Moving.{did-moved}
+use Rattle.updates.proofs.delays.delay_report.Statement.{statement}
+use Rattle.updates.proofs.delays.delay_report.Tie as tie
 
 -- what the definition does, by its two tests
 abbrev reportBy : Ends → ℕ → Bool → Bool → Endpoint → Outcome

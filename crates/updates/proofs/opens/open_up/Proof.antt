@@ -19,10 +19,10 @@ use Rattle.saved.specs.declared.records.Endpoint.{Endpoint as Head}
 use Rattle.saved.specs.Moved.{openedHead}
 use Rattle.saved.specs.Records.{loaded, endpointOf, recordAt, configAt}
 use Rattle.replies.proofs.Serving.{Meets}
 use Rattle.asks.proofs.Meeting.{exactly, meets-here, says-code, did-refuse, did-answer}
-use Rattle.asks.proofs.Moving.{did-moved}
-use Rattle.asks.proofs.opens.open_up.Statement.{statement}
-use Rattle.asks.proofs.opens.open_up.Tie as tie
+use Rattle.updates.proofs.Moving.{did-moved}
+use Rattle.updates.proofs.opens.open_up.Statement.{statement}
+use Rattle.updates.proofs.opens.open_up.Tie as tie
 
 -- what the definition does, by its test
 abbrev openBy : Ends → ℕ → Bool → Endpoint → Outcome

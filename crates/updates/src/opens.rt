@@ -1,6 +1,6 @@
 // 06 Open: a configured endpoint opens and awaits its channel, where none awaits one already.
-use crate::meets::Met;
-use crate::meets::meet;
+use asks::meets::Met;
+use asks::meets::meet;
 use rules::Said;
 use saved::moves::opened;
 use saved::records::get;

@@ -1,6 +1,6 @@
 // 0D Delay Report: the delay in tenths of a millisecond, high octet first.
-use crate::meets::Met;
-use crate::meets::meet;
+use asks::meets::Met;
+use asks::meets::meet;
 use rules::Said;
 use saved::moves::delayed;
 use saved::records::config;
