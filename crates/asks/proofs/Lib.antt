@@ -1,3 +1,2 @@
 pub mod Meeting
-pub mod Moving
 pub mod Discovering

@@ -1,7 +1,7 @@
 // 01 Discover: two octets for each entry of the book, its SEID with whether it is in use, and its kind octet.
 use rules::Said;
 use saved::records::get;
-use saved::tests::is_idle;
+use states::is_idle;
 
 ghost use mathlib.Core.Path.{_≡_};
 ghost use Prim.Native.Nat.{_+_, _*_, _≤_};

@@ -4,7 +4,7 @@ use crate::meets::meet;
 use rules::Said;
 use saved::records::config;
 use saved::records::get;
-use saved::tests::is_set;
+use states::is_set;
 
 ghost use Prim.Native.Nat.{_≤_};
 ghost use lib.ListN.{length};

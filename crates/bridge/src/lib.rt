@@ -145,12 +145,12 @@ pub fn delay(book: &[u8], saved: &[u8], seid: OurSeid) -> Heard
 pub fn packets(size: usize, length: usize) -> usize
     ensures { λ r. ⌜ r ≡ packetsCall size length ⌝ }
 {
-    wire::cuts::packets(size, length)
+    cuts::packets(size, length)
 }
 
 // Writes packet number `index` of a message, counted from 0, at the front of `area`.
 pub fn cut(size: usize, label: u8, kind: u8, signal: u8, payload: &[u8], index: usize, area: &mut [u8]) -> Piece
     ensures { λ r. ⌜ Cuts size label kind signal (now (payload .entry)) index (now (area .entry)) r (now (area .exit)) ⌝ }
 {
-    wire::cuts::cut(size, label, kind, signal, payload, index, area)
+    cuts::cut(size, label, kind, signal, payload, index, area)
 }

@@ -20,14 +20,14 @@ pub fn obey(signal: u8, book: &[u8], records: &mut [u8], payload: &[u8], reply: 
         3 => sets::settings::set_configuration(book, records, payload, reply),
         4 => asks::shows::get_configuration(book, records, payload, reply),
         5 => sets::renewals::reconfigure(book, records, payload, reply),
-        6 => asks::opens::open_up(book, records, payload, reply),
+        6 => updates::opens::open_up(book, records, payload, reply),
         7 => turns::streams::start(book, records, payload, reply),
         8 => turns::leaves::close(book, records, payload, reply),
         9 => turns::streams::suspend(book, records, payload, reply),
         10 => turns::leaves::abort(book, records, payload, reply),
         11 => asks::shows::security_control(book, records, payload, reply),
         12 => asks::shows::get_all_capabilities(book, records, payload, reply),
-        13 => asks::delays::delay_report(book, records, payload, reply),
+        13 => updates::delays::delay_report(book, records, payload, reply),
         _ => replies::general(),
     }
 }

@@ -22,9 +22,9 @@ use Rattle.rules.proofs.Pieces.{soFar, takes-single, takes-start, takes-next, t
 use Rattle.rules.proofs.ReadsBack.{HasRoom, counts, count-small, packets-fit, gather-packet}
 use Rattle.rules.proofs.RightMessages.{gather-right}
 use Rattle.octets.specs.Patch.{part}
-use Rattle.wire.specs.Rooms.{RoomRight}
-use Rattle.wire.proofs.Cutter.{Numbered, cuts}
-use Rattle.wire.proofs.Rooms.{stored-read, room-kept}
+use Rattle.gathers.specs.Rooms.{RoomRight}
+use Rattle.gathers.proofs.Rooms.{stored-read, room-kept}
+use Rattle.cuts.proofs.Cutter.{Numbered, cuts}
 use Rattle.echo.specs.declared.Echoed.{Echoed}
 use Rattle.echo.specs.Echoes.{echoedOf, payloadOn}
 

@@ -8,7 +8,7 @@ ghost use lib.ListN.{length};
 ghost use Rattle.rules.specs.Octets.{front};
 ghost use Rattle.rules.specs.Packets.{gather};
 ghost use Rattle.rules.specs.Saved.{gatheringIn, storeGathering};
-ghost use Rattle.wire.specs.Rooms.{RoomRight};
+ghost use Rattle.gathers.specs.Rooms.{RoomRight};
 ghost use Rattle.echo.specs.Echoes.{echoedOf, payloadOn};
 
 // Whether a message is complete, and then its numbers and the length of its payload.
@@ -41,7 +41,7 @@ fn receive(room: &mut [u8], size: usize, packet: &[u8], message: &mut [u8]) -> E
     ensures message { λ _. ⌜ now (message .exit)
         ≡ payloadOn (gather size (gatheringIn (now (room .entry))) (now (packet .entry)) .done) (now (message .entry)) ⌝ }
 {
-    let then = wire::gathers::gather(room, size, packet);
+    let then = gathers::gather(room, size, packet);
     match then {
         Next::Single { label, kind, signal } => {
             let length = packet.len() - 2;
@@ -55,7 +55,7 @@ fn receive(room: &mut [u8], size: usize, packet: &[u8], message: &mut [u8]) -> E
             }
         }
         Next::Complete { label, kind, signal } => {
-            let length = wire::gathers::assemble(message, room, packet);
+            let length = gathers::assemble(message, room, packet);
             Echoed {
                 done: true,
                 label,
@@ -87,10 +87,10 @@ pub fn echo(
         ≡ record { done = true; label = label; kind = kind; signal = signal; length = length (now (payload .entry)) } ⌝ }
     ensures message { λ _. ⌜ now (message .exit) ≡ front (now (payload .entry)) (now (message .entry)) ⌝ }
 {
-    let total = wire::cuts::packets(size, payload.len());
+    let total = cuts::packets(size, payload.len());
     let mut index = 0;
     while index < total {
-        let piece = wire::cuts::cut(size, label, kind, signal, payload, index, area);
+        let piece = cuts::cut(size, label, kind, signal, payload, index, area);
         let written = piece.length;
         let echoed = receive(room, size, octets::part(area, 0, written), message);
         let done = echoed.done;

@@ -11,7 +11,7 @@ use Rattle.rules.specs.Octets.{between}
 use Rattle.rules.specs.Packets.{longest, gatheringRight}
 use Rattle.rules.specs.Endpoints.{legalGathering}
 use Rattle.rules.specs.Saved.{gatheringRoom, gatheringAt, gatheringIn, gatheringOctetsRight}
-use Rattle.wire.proofs.Rooms.{gatheredIn, payload-length}
+use Rattle.gathers.proofs.Rooms.{gatheredIn, payload-length}
 use Rattle.legal.specs.Legal.{roomLegal}
 
 and-true : (a : Bool) → a && true ≡ a

@@ -17,7 +17,7 @@ use Rattle.rules.specs.Saved.{connectionIn, savedRight}
 use Rattle.rules.proofs.Tests.{and-l, and-r}
 use Rattle.rules.proofs.SavedReads.{octets-drop, gathering-room, records-room}
 use Rattle.octets.specs.Patch.{part}
-use Rattle.wire.specs.Rooms.{RoomRight}
+use Rattle.gathers.specs.Rooms.{RoomRight}
 use Rattle.saved.specs.Held.{Held}
 use Rattle.saved.specs.Serves.{Serves}
 use Rattle.legal.specs.Legal.{recordsLegal, roomLegal}

@@ -6,9 +6,9 @@ use rules::Channel;
 use rules::OurSeid;
 use rules::State;
 use saved::records::load;
-use saved::tests::is_absent;
-use saved::tests::is_idle;
-use saved::tests::is_up;
+use states::is_absent;
+use states::is_idle;
+use states::is_up;
 
 ghost use mathlib.Core.Path.{_≡_};
 ghost use mathlib.Core.Bool.{_&&_, _||_};

@@ -6,7 +6,7 @@ use rules::Delay;
 use rules::FarSeid;
 use rules::Marks;
 use rules::Walked;
-use saved::tests::far_right;
+use states::far_right;
 
 ghost use mathlib.Core.Path.{_≡_};
 ghost use mathlib.Core.Bool.{not, _&&_, _||_};

@@ -1,8 +1,8 @@
 // Link events over the records of a saved connection.
 use rules::OurSeid;
 use rules::Place;
-use saved::tests::is_awaited;
-use saved::tests::is_up;
+use states::is_awaited;
+use states::is_up;
 
 ghost use mathlib.Core.Path.{_≡_};
 ghost use Prim.Native.Nat.{ℕ};
@@ -21,7 +21,7 @@ pub fn up(records: &mut [u8], count: usize) -> u8
         let e = saved::records::get(records, i);
         let channel = e.channel;
         if is_awaited(channel) {
-            saved::records::set(records, i, saved::lent::turned(e, true));
+            saved::records::set(records, i, lent::turned(e, true));
             return 0;
         }
         i += 1;
@@ -47,7 +47,7 @@ pub fn down(book: &[u8], records: &mut [u8], seid: OurSeid) -> u8
             let e = saved::records::get(records, index);
             let channel = e.channel;
             if is_up(channel) {
-                saved::records::set(records, index, saved::lent::turned(e, false));
+                saved::records::set(records, index, lent::turned(e, false));
                 return 0;
             }
             10

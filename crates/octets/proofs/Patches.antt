@@ -8,7 +8,7 @@ use native.Mathlib.Numerals.{add-one}
 use native.Mathlib.Omega.{arith}
 use lib.ListN.{length, take, drop, set, length-append, length-take, length-drop, take-append-drop}
 use lib.Seq.{take-at, drop-at, length-take-le, drop-drop, take-take, take-append-le, drop-append-le, take-append-add}
-use lib.Seq.{drop-append-add, take-nil, set-split, set-at}
+use lib.Seq.{drop-append-add, take-append-seam, take-nil, set-split, set-at}
 use Rattle.rules.specs.Octets.{front}
 use Rattle.octets.specs.Patch.{patch, part}
 
@@ -86,6 +86,15 @@ part-behind from size at s d h k = ap (take size) (drop-patch from at s d h k)
 pub front-patch : (s d : List ℕ) → front s d ≡ patch 0 s d
 unfolding front patch
 front-patch s d = rw zero-add
+
+-- and on where that ends
+pub front-more : (s q d : List ℕ) → patch (length s) q (front s d) ≡ front (s ++ q) d
+unfolding patch front
+front-more s q d =
+    ap₂ (λ (x y : List ℕ). x ++ (q ++ y)) (take-append-seam s (drop (length s) d))
+      (drop-append-add s (drop (length s) d) (length q) ∙ drop-drop (length q) (length s) d
+       ∙ ap (λ (n : ℕ). drop n d) (sym (length-append s q)))
+    ∙ sym (append-assoc s q (drop (length (s ++ q)) d))
 
 -- disjoint patches commute
 five : (a m b n z : List ℕ) → a ++ (m ++ (b ++ (n ++ z))) ≡ (a ++ (m ++ b)) ++ (n ++ z)

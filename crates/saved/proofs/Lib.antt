@@ -1,4 +1,3 @@
-mod HeadCells
 pub mod Configs
 pub mod Heads
 pub mod OneStore

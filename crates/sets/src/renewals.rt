@@ -11,8 +11,8 @@ use rules::Walked;
 use saved::records::config;
 use saved::records::get;
 use saved::records::Endpoint;
-use saved::tests::is_idle;
-use saved::tests::is_open;
+use states::is_idle;
+use states::is_open;
 
 ghost use mathlib.Core.Path.{_≡_};
 ghost use Prim.Native.Nat.{_*_, _≤_};

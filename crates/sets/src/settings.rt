@@ -10,8 +10,8 @@ use rules::Said;
 use rules::Walked;
 use saved::moves::settled;
 use saved::records::get;
-use saved::tests::far_right;
-use saved::tests::is_idle;
+use states::far_right;
+use states::is_idle;
 
 ghost use Prim.Native.Nat.{_≤_};
 ghost use lib.ListN.{length};

@@ -19,10 +19,10 @@ use Rattle.rules.specs.declared.Next.the-variants.{Single, Complete}
 use Rattle.rules.proofs.SavedReads.{ends-kept}
 use Rattle.rules.proofs.Refused.{nothing-written}
 use Rattle.saved.specs.Serves.{Serves}
-use Rattle.wire.specs.Rooms.{RoomRight}
-use Rattle.wire.proofs.Rooms.{room-kept}
-use Rattle.wire.proofs.Steps.{Singles, room-told}
-use Rattle.wire.proofs.Done.{roomAfter, Assembled, assembled}
+use Rattle.gathers.specs.Rooms.{RoomRight}
+use Rattle.gathers.proofs.Rooms.{room-kept}
+use Rattle.gathers.proofs.Steps.{Singles, room-told}
+use Rattle.gathers.proofs.Done.{roomAfter, Assembled, assembled}
 use Rattle.legal.proofs.RightSaved.{Right, right-saved, serves}
 use Rattle.takes.specs.Taken.{Takes, Joins, joined, areaAfter, served, taken}
 

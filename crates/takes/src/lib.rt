@@ -12,7 +12,7 @@ ghost use Rattle.rules.specs.Host.{nothingSaid, Answered};
 ghost use Rattle.rules.specs.Wires.{nextOf};
 ghost use Rattle.rules.specs.Answers.{toldBy};
 ghost use Rattle.saved.specs.Serves.{Serves};
-ghost use Rattle.wire.specs.Rooms.{RoomRight};
+ghost use Rattle.gathers.specs.Rooms.{RoomRight};
 ghost use Rattle.takes.specs.Taken.{Takes, Joins, spoken, joined, areaAfter, served, taken};
 
 // A refusal, or silence, whose number is 0.
@@ -50,7 +50,7 @@ fn gathered(saved: &mut [u8], size: usize, packet: &[u8]) -> Next
     ensures next { λ r. ⌜ r ≡ nextOf size (gatheringIn (take gatheringRoom (now (saved .entry)))) (now (packet .entry)) ⌝ }
     ensures saved { λ _. ⌜ now (saved .exit) ≡ areaAfter size (now (saved .entry)) (now (packet .entry)) ⌝ }
 {
-    wire::gathers::gather(&mut saved[0..520], size, packet)
+    gathers::gather(&mut saved[0..520], size, packet)
 }
 
 // Answers a message over the records behind the gathering.
@@ -73,7 +73,7 @@ fn serve_joined(label: u8, kind: u8, signal: u8, book: &[u8], saved: &mut [u8], 
           (now (saved .entry)) (now (reply .entry))) ⌝ }
 {
     let mut message = [0u8; 512];
-    let length = wire::gathers::assemble(&mut message, &saved[0..520], packet);
+    let length = gathers::assemble(&mut message, &saved[0..520], packet);
     serve(label, kind, signal, book, saved, &message[0..length], reply)
 }
 

@@ -10,8 +10,8 @@ use borrow.Author.Needs.{needs}
 use Rattle.rules.specs.Octets.{front}
 use Rattle.rules.specs.Packets.{Message}
 use Rattle.rules.specs.Cutting.{countOf, packetAt}
-use Rattle.wire.specs.Rooms.{RoomRight}
-use Rattle.wire.proofs.Cutter.{size-right, packets-right}
+use Rattle.gathers.specs.Rooms.{RoomRight}
+use Rattle.cuts.proofs.Cutter.{size-right, packets-right}
 use Rattle.echo.proofs.Turns.{Whole, some-packet, packet-small, Written, written, lent}
 use Rattle.echo.proofs.Turns.{fresh, Back, Owed, turn-done, turn-on}
 use Rattle.echo.proofs.echo.Statement.{statement}

@@ -15,10 +15,10 @@ use Rattle.rules.specs.declared.Next.{Next}
 use Rattle.rules.specs.declared.Next.the-variants.{Ended, Single, Begun, Grown, Complete}
 use Rattle.octets.specs.Patch.{patch, part}
 use Rattle.octets.proofs.Patches.{front-patch}
-use Rattle.wire.specs.Rooms.{RoomRight}
-use Rattle.wire.proofs.Headers.{behind}
-use Rattle.wire.proofs.Steps.{Singles, RoomTells, room-told}
-use Rattle.wire.proofs.Done.{roomAfter, Assembled, assembled, none-done}
+use Rattle.gathers.specs.Rooms.{RoomRight}
+use Rattle.gathers.proofs.Headers.{behind}
+use Rattle.gathers.proofs.Steps.{Singles, RoomTells, room-told}
+use Rattle.gathers.proofs.Done.{roomAfter, Assembled, assembled, none-done}
 use Rattle.echo.specs.declared.Echoed.{Echoed}
 use Rattle.echo.specs.Echoes.{echoedOf, payloadOn}
 use Rattle.echo.proofs.receive.Statement.{statement}

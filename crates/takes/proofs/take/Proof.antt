@@ -7,8 +7,8 @@ use Rattle.rules.specs.Saved.{gatheringRoom, gatheringIn}
 use Rattle.rules.specs.Wires.{nextOf}
 use Rattle.rules.specs.declared.Next.{Next}
 use Rattle.rules.specs.declared.Next.the-variants.{Single, Complete}
-use Rattle.wire.proofs.Steps.{room-told}
-use Rattle.wire.proofs.Done.{none-done}
+use Rattle.gathers.proofs.Steps.{room-told}
+use Rattle.gathers.proofs.Done.{none-done}
 use Rattle.rules.proofs.SavedReads.{octets-known}
 use Rattle.takes.proofs.Halves.{behind-whole}
 use Rattle.takes.proofs.Taking.{room-right, nothing-done, single-header, single-serves, single-done, joined-serves, joined-done}

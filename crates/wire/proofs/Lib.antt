@@ -1,6 +1,0 @@
-pub mod Headers
-pub mod Fronts
-pub mod Steps
-pub mod Rooms
-pub mod Done
-pub mod Cutter

@@ -1,3 +1,0 @@
-// Packets: one gathering step, and the cutter.
-pub mod gathers;
-pub mod cuts;
