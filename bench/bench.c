@@ -1,0 +1,100 @@
+/* bench TRACE TURNS: makes the calls of a trace TURNS times over, through the archive. reference/src/bin/bench.rs writes traces from
+   scripts, and makes the same calls of the reference. */
+#include <stdio.h>
+#include <stdlib.h>
+#include <string.h>
+
+#include "bawbeenor.h"
+
+/* A step: its kind, six numbers of 16 bits, low octet first, the length of its octets, and the octets. */
+enum { BOOK, REBOOK, SIZE, AREA, PACKET, UP, DOWN, LOST, SETTINGS, DELAY, CUT };
+
+typedef struct {
+    unsigned kind, numbers[6];
+    size_t length;
+    const uint8_t *octets;
+} step;
+
+static uint8_t trace[1 << 24], saved[BAWBEENOR_SAVED_LONGEST], reply[65535], area[65535];
+static step steps[1 << 18];
+
+static unsigned pair(const uint8_t *p) { return p[0] + 256u * p[1]; }
+
+static size_t read_trace(const char *name)
+{
+    FILE *in = fopen(name, "rb");
+    if (in == NULL) {
+        perror(name);
+        exit(1);
+    }
+    size_t length = fread(trace, 1, sizeof trace, in), count = 0;
+    fclose(in);
+    for (size_t at = 0; at < length && count < sizeof steps / sizeof *steps; count++) {
+        step *s = &steps[count];
+        s->kind = trace[at];
+        for (size_t i = 0; i < 6; i++)
+            s->numbers[i] = pair(trace + at + 1 + 2 * i);
+        s->length = pair(trace + at + 13);
+        s->octets = trace + at + 15;
+        at += 15 + s->length;
+    }
+    return count;
+}
+
+int main(int argc, char **argv)
+{
+    if (argc != 3) {
+        fprintf(stderr, "usage: bench TRACE TURNS\n");
+        return 1;
+    }
+    size_t count = read_trace(argv[1]);
+    const uint8_t *book = trace;
+    size_t book_length = 0, records = 0, lent = 0, size = 672, reply_length = 64;
+    uint64_t sum = 0;
+    for (long turn = atol(argv[2]); turn > 0; turn--)
+        for (const step *s = steps; s < steps + count; s++)
+            switch (s->kind) {
+            case BOOK:
+                if (bawbeenor_fresh(s->octets, s->length, saved, sizeof saved) == 0) {
+                    book = s->octets;
+                    book_length = s->length;
+                    records = book[5];
+                    lent = BAWBEENOR_SAVED(records);
+                }
+                break;
+            case REBOOK:
+                if (bawbeenor_check(s->octets, s->length) == 0) {
+                    book = s->octets;
+                    book_length = s->length;
+                    lent = records == book[5] ? BAWBEENOR_SAVED(records) : 0;
+                }
+                break;
+            case SIZE: size = s->numbers[0]; break;
+            case AREA: reply_length = s->numbers[0]; break;
+            case PACKET: {
+                bawbeenor_answer a =
+                    bawbeenor_packet(book, book_length, size, saved, lent, s->octets, s->length, reply, reply_length);
+                sum += a.number + a.length;
+                break;
+            }
+            case UP:
+            case DOWN:
+            case LOST:
+                sum += bawbeenor_event(book, book_length, saved, lent, (uint8_t)(s->kind - UP), (uint8_t)s->numbers[0]);
+                break;
+            case SETTINGS: {
+                bawbeenor_span a = bawbeenor_settings(book, book_length, saved, lent, (uint8_t)s->numbers[0]);
+                sum += a.number + a.length;
+                break;
+            }
+            case DELAY: sum += bawbeenor_delay(book, book_length, saved, lent, (uint8_t)s->numbers[0]).tenths; break;
+            case CUT: {
+                bawbeenor_written a = bawbeenor_cut(s->numbers[0], (uint8_t)s->numbers[1], (uint8_t)s->numbers[2],
+                                                    (uint8_t)s->numbers[3], s->octets, s->length, s->numbers[5], area, s->numbers[4]);
+                sum += a.number + a.length;
+                break;
+            }
+            }
+    printf("%llu\n", (unsigned long long)sum);
+    return 0;
+}

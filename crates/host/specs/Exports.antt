@@ -1,0 +1,94 @@
+-- The contracts of the calls that a host in C makes: the numbers that cross are those of the definition of the call, and so is every
+-- lent area at exit.
+use Prim.Native.Nat.{ℕ, _+_, _*_, _≤_}
+use mathlib.Core.Path.{_≡_}
+use mathlib.Core.List.{List, [], _∷_}
+use lib.ListN.{length, getD}
+use lib.Dec.{eqb}
+use Rattle.rules.specs.Octets.{if_then_else_}
+use Rattle.rules.specs.Walks.{placeIn}
+use Rattle.rules.specs.Saved.{gatheringRoom, recordRoom}
+use Rattle.rules.specs.Host.{Kept, freshCall, Answered, packetCall, eventCall, refusalOf, Shown, settingsCall, delayCall, cutCall}
+use Rattle.rules.specs.declared.OurSeid.{OurSeid}
+use Rattle.rules.specs.declared.Event.{Event}
+use Rattle.rules.specs.declared.Event.the-variants.{Up, Down, Lost}
+use Rattle.rules.specs.declared.Place.{Place}
+use Rattle.rules.specs.declared.Place.the-variants.{Unknown, Known}
+use Rattle.octets.specs.Patch.{part}
+use Rattle.host.specs.declared.Answer.{Answer}
+use Rattle.host.specs.declared.Span.{Span}
+use Rattle.host.specs.declared.Lag.{Lag}
+use Rattle.host.specs.declared.Written.{Written}
+
+abbrev pub ours : ℕ → OurSeid
+ours seid = record { 0 = seid }
+
+-- ---- fresh, packet
+
+abbrev pub Freshens : List ℕ → List ℕ → ℕ → List ℕ → Type 0
+Freshens book saved number saved′ = _≡_ {A = Kept} (record { number = number; saved = saved′ }) (freshCall book saved)
+
+abbrev pub Answers : List ℕ → ℕ → List ℕ → List ℕ → List ℕ → Answer → List ℕ → List ℕ → Type 0
+Answers book size saved packet reply r saved′ reply′ =
+    _≡_ {A = Answered}
+      (record {
+        told =
+          record { number = r .number; label = r .label; type = r .kind; signal = r .signal; length = r .length };
+        saved = saved′;
+        reply = reply′
+      })
+      (packetCall book size saved packet reply)
+
+-- ---- event
+
+-- by its kind: 0 up, 1 down, 2 lost; another is the channel of SEID 0 down, which no book has
+abbrev pub eventOf : ℕ → ℕ → Event
+eventOf kind seid = getD (Up ∷ Down (ours seid) ∷ Lost ∷ []) kind (Down (ours 0))
+
+abbrev pub Happens : List ℕ → List ℕ → ℕ → ℕ → ℕ → List ℕ → Type 0
+Happens book saved kind seid number saved′ =
+    _≡_ {A = Kept} (record { number = number; saved = saved′ }) (eventCall book saved (eventOf kind seid))
+
+-- ---- settings: where the octets stand, and that they are those of the call
+
+abbrev pub nowhereBy : ℕ → Span
+nowhereBy number = record { number = number; area = 0; offset = 0; length = 0 }
+
+-- where record i begins in the saved area
+abbrev pub recordFrom : ℕ → ℕ
+recordFrom i = gatheringRoom + i * recordRoom
+
+-- the configuration of record i where it has one, else the list of the book's entry
+unfoldable pub spanAt : Place → List ℕ → Span
+spanAt Unknown saved = nowhereBy 10
+spanAt (Known i kind from size) saved =
+    let n = getD saved (recordFrom i + 7) 0 in
+    if eqb n 0 then record { number = 0; area = 1; offset = from; length = size }
+    else record { number = 0; area = 2; offset = recordFrom i + 8; length = n }
+
+unfoldable pub spanCall : List ℕ → List ℕ → OurSeid → Span
+spanCall book saved s =
+    let number = refusalOf book saved in if eqb number 0 then spanAt (placeIn s book) saved else nowhereBy number
+
+unfoldable pub areaBy : ℕ → List ℕ → List ℕ → List ℕ
+areaBy area book saved = if eqb area 1 then book else if eqb area 2 then saved else []
+
+unfoldable pub shownBy : List ℕ → List ℕ → Span → Shown
+shownBy book saved r = record { number = r .number; part = part (r .offset) (r .length) (areaBy (r .area) book saved) }
+
+pub record Stands (book saved : List ℕ) (seid : ℕ) (r : Span) : Type 0 where
+  pub place : r ≡ spanCall book saved (ours seid)
+  pub shows : shownBy book saved r ≡ settingsCall book saved (ours seid)
+  pub inside : r .offset + r .length ≤ length (areaBy (r .area) book saved)
+
+-- ---- delay, cut
+
+abbrev pub Hears : List ℕ → List ℕ → ℕ → Lag → Type 0
+Hears book saved seid r =
+    _≡_ {A = Rattle.rules.specs.Host.Heard} (record { number = r .number; reported = r .reported; tenths = r .tenths })
+      (delayCall book saved (ours seid))
+
+abbrev pub Cuts : ℕ → ℕ → ℕ → ℕ → List ℕ → ℕ → List ℕ → Written → List ℕ → Type 0
+Cuts size label kind signal payload index area r area′ =
+    _≡_ {A = Rattle.rules.specs.Host.Cut} (record { number = r .number; length = r .length; area = area′ })
+      (cutCall size (record { label = label; type = kind; signal = signal; payload = payload }) index area)

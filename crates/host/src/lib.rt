@@ -1,0 +1,162 @@
+// The public calls for a host in C: `bridge`'s, over slices and numbers. A slice crosses as two parameters, where it begins and how
+// long it is; include/bawbeenor.h says the same in C. Each answers as the call of `bridge` with the same numbers, on every input.
+mod events;
+
+use rules::OurSeid;
+use rules::Place;
+
+ghost use mathlib.Core.Path.{_≡_};
+ghost use Rattle.rules.specs.Host.{checkCall, packetsCall};
+ghost use Rattle.host.specs.Exports.{Freshens, Answers, Happens, Stands, Hears, Cuts};
+
+// What a packet leads to: a number, and of the reply its label, message type (0 silence, 1 general reject, 2 accept, 3 reject),
+// signal and length.
+#[repr(C)]
+pub struct Answer {
+    pub number: u8,
+    pub label: u8,
+    pub kind: u8,
+    pub signal: u8,
+    pub length: usize,
+}
+
+// Where an endpoint's settings stand: a number, the area (0 none, 1 the book, 2 the saved area), the place in it and the length.
+#[repr(C)]
+pub struct Span {
+    pub number: u8,
+    pub area: u8,
+    pub offset: usize,
+    pub length: usize,
+}
+
+// A delay: a number, whether one was reported, and tenths of a millisecond.
+#[repr(C)]
+pub struct Lag {
+    pub number: u8,
+    pub reported: bool,
+    pub tenths: u16,
+}
+
+// What the cutter tells: a number, and the length of the packet that was written.
+#[repr(C)]
+pub struct Written {
+    pub number: u8,
+    pub length: usize,
+}
+
+#[no_mangle]
+pub extern "C" fn bawbeenor_check(book: &[u8]) -> u8
+    ensures { λ r. ⌜ r ≡ checkCall (now (book .entry)) ⌝ }
+{
+    bridge::check(book)
+}
+
+#[no_mangle]
+pub extern "C" fn bawbeenor_fresh(book: &[u8], saved: &mut [u8]) -> u8
+    ensures { λ r. ⌜ Freshens (now (book .entry)) (now (saved .entry)) r (now (saved .exit)) ⌝ }
+{
+    bridge::fresh(book, saved)
+}
+
+#[no_mangle]
+pub extern "C" fn bawbeenor_packet(book: &[u8], size: usize, saved: &mut [u8], packet: &[u8], reply: &mut [u8]) -> Answer
+    ensures { λ r. ⌜ Answers (now (book .entry)) size (now (saved .entry)) (now (packet .entry)) (now (reply .entry))
+        r (now (saved .exit)) (now (reply .exit)) ⌝ }
+{
+    let told = bridge::packet(book, size, saved, packet, reply);
+    Answer {
+        number: told.number,
+        label: told.label,
+        kind: told.kind,
+        signal: told.signal,
+        length: told.length,
+    }
+}
+
+// An event by its kind: 0 the awaited channel is up, 1 the channel of `seid` is down, 2 the link is lost.
+#[no_mangle]
+pub extern "C" fn bawbeenor_event(book: &[u8], saved: &mut [u8], kind: u8, seid: u8) -> u8
+    ensures { λ r. ⌜ Happens (now (book .entry)) (now (saved .entry)) kind seid r (now (saved .exit)) ⌝ }
+{
+    let event = events::event_of(kind, seid);
+    bridge::event(book, saved, event)
+}
+
+fn nowhere(number: u8) -> Span
+    ensures { λ r. ⌜ r ≡ record { number = number; area = 0; offset = 0; length = 0 } ⌝ }
+{
+    Span {
+        number,
+        area: 0,
+        offset: 0,
+        length: 0,
+    }
+}
+
+#[no_mangle]
+pub extern "C" fn bawbeenor_settings(book: &[u8], saved: &[u8], seid: u8) -> Span
+    ensures { λ r. ⌜ Stands (now (book .entry)) (now (saved .entry)) seid r ⌝ }
+{
+    let number = bridge::settings_told(book, saved, OurSeid(seid));
+    if number != 0 {
+        return nowhere(number);
+    }
+    let place = book::places::place(book, OurSeid(seid));
+    match place {
+        Place::Unknown => nowhere(10),
+        Place::Known {
+            index,
+            kind: _,
+            from,
+            size,
+        } => {
+            let head = 520 + index * 80;
+            let length = saved[head + 7] as usize;
+            if length == 0 {
+                Span {
+                    number: 0,
+                    area: 1,
+                    offset: from,
+                    length: size,
+                }
+            } else {
+                Span {
+                    number: 0,
+                    area: 2,
+                    offset: head + 8,
+                    length,
+                }
+            }
+        }
+    }
+}
+
+#[no_mangle]
+pub extern "C" fn bawbeenor_delay(book: &[u8], saved: &[u8], seid: u8) -> Lag
+    ensures { λ r. ⌜ Hears (now (book .entry)) (now (saved .entry)) seid r ⌝ }
+{
+    let heard = bridge::delay(book, saved, OurSeid(seid));
+    Lag {
+        number: heard.number,
+        reported: heard.reported,
+        tenths: heard.tenths,
+    }
+}
+
+#[no_mangle]
+pub extern "C" fn bawbeenor_packets(size: usize, length: usize) -> usize
+    ensures { λ r. ⌜ r ≡ packetsCall size length ⌝ }
+{
+    bridge::packets(size, length)
+}
+
+#[no_mangle]
+pub extern "C" fn bawbeenor_cut(size: usize, label: u8, kind: u8, signal: u8, payload: &[u8], index: usize, area: &mut [u8]) -> Written
+    ensures { λ r. ⌜ Cuts size label kind signal (now (payload .entry)) index (now (area .entry)) r (now (area .exit)) ⌝ }
+{
+    let piece = bridge::cut(size, label, kind, signal, payload, index, area);
+    Written {
+        number: piece.number,
+        length: piece.length,
+    }
+}

@@ -1,0 +1,135 @@
+/* bawbeenor.h: the signalling side of a listening bridge, for a host in C.
+
+   Every call answers every input: there is nothing to test before it. Each is proved to answer what crates/rules/specs/Host.antt
+   says (crates/host), with what the caller owes here:
+
+   - An area goes in as two parameters, where it begins and its length in octets. All of it is the caller's: the library has no
+     memory of its own, keeps no address after a call, and takes nothing from a heap.
+   - An area is never NULL, also where its length is 0.
+   - A lent area (uint8_t *) overlaps no other area of the same call, and nothing else reads or writes it during the call. Areas
+     that are only read (const uint8_t *) may overlap each other, and nothing writes them during the call.
+   - Calls over different areas may run at the same time.
+
+   A refusal (any number but 0) changes no octet of any area. Calls need some stack: docs/SPEED.md says how much. The archive needs
+   memcpy and memset of the C library and nothing else. */
+#ifndef BAWBEENOR_H
+#define BAWBEENOR_H
+
+#include <stdbool.h>
+#include <stddef.h>
+#include <stdint.h>
+
+#ifdef __cplusplus
+extern "C" {
+#endif
+
+/* ---- Sizes, in octets */
+
+#define BAWBEENOR_ENDPOINTS 16         /* of a book, at most */
+#define BAWBEENOR_BOOK_LONGEST 1078    /* 6 + 16 * (3 + 64) */
+#define BAWBEENOR_SAVED(endpoints) (520 + 80 * (size_t)(endpoints))
+#define BAWBEENOR_SAVED_LONGEST 1800   /* BAWBEENOR_SAVED(BAWBEENOR_ENDPOINTS) */
+#define BAWBEENOR_REPLY 64             /* of a reply area, at least; no reply's payload is longer */
+#define BAWBEENOR_SIZE_SMALLEST 48     /* packet sizes */
+#define BAWBEENOR_SIZE_LARGEST 672
+#define BAWBEENOR_PAYLOAD_LONGEST 512  /* of a message */
+
+/* ---- Numbers, in the order in which a call tests: the book 1 to 7, then 8, 9, 12, 10; the cutter 8, 11, 9 */
+
+enum {
+    BAWBEENOR_DONE = 0,
+    BAWBEENOR_BOOK_LENGTH = 1,     /* book shorter than 6, an entry or its list past the end, or octets left over */
+    BAWBEENOR_BOOK_MARK = 2,       /* book's mark */
+    BAWBEENOR_BOOK_VERSION = 3,    /* book's version is not 1 */
+    BAWBEENOR_BOOK_COUNT = 4,      /* book's count is not 1 to 16 */
+    BAWBEENOR_BOOK_SEID = 5,       /* a SEID outside 1 to 62 or not ascending */
+    BAWBEENOR_BOOK_KIND = 6,       /* a kind octet */
+    BAWBEENOR_BOOK_LIST = 7,       /* a capability list above 64 octets or that breaks its rules */
+    BAWBEENOR_SIZE = 8,            /* packet size is not 48 to 672 */
+    BAWBEENOR_AREA = 9,            /* reply area below 64 octets, or packet area below the packet to be written */
+    BAWBEENOR_DOES_NOT_APPLY = 10, /* the event or the endpoint asked about does not apply */
+    BAWBEENOR_NOT_TO_CUT = 11,     /* no such packet, payload above 512, label above 15, message type above 3, signal above 63 */
+    BAWBEENOR_NOT_LEGAL = 12       /* the saved connection is not legal for this book, or its area too short */
+};
+
+/* ---- The book: 0x48 0x4C 0x42, version 0 1, count; then for each endpoint its SEID, its kind octet, the length of its list of
+   elements, and the list. It is judged at every call, so it may lie in memory that anything can write between calls. */
+
+/* Whether a book is right: 0, or 1 to 7. */
+uint8_t bawbeenor_check(const uint8_t *book, size_t book_length);
+
+/* ---- The saved connection: BAWBEENOR_SAVED(endpoints) octets, docs/SAVED.md draws them. The host keeps them between calls, and
+   through a restart if it likes: an area that holds no legal connection is told 12. Octets behind are never touched. */
+
+/* Begins: every endpoint idle, nothing gathered. 1 to 7, or 12 where the area is too short. */
+uint8_t bawbeenor_fresh(const uint8_t *book, size_t book_length, uint8_t *saved, size_t saved_length);
+
+/* ---- A packet from the far end */
+
+enum { BAWBEENOR_SILENT = 0, BAWBEENOR_GENERAL_REJECT = 1, BAWBEENOR_ACCEPT = 2, BAWBEENOR_REJECT = 3 };
+
+typedef struct {
+    uint8_t number;
+    uint8_t label;  /* label, message type and signal go to bawbeenor_cut as they are */
+    uint8_t kind;   /* message type; 0: nothing is to be sent */
+    uint8_t signal;
+    size_t length;  /* of the payload, at the front of the reply area */
+} bawbeenor_answer;
+
+/* Takes one packet; `size` is the largest packet that the host takes. The reply's payload is written at the front of `reply`; the
+   octets behind it stay. 1 to 7, 8, 9 where the reply area is below 64 octets, 12. A refusal has 0 in all fields but the number. */
+bawbeenor_answer bawbeenor_packet(const uint8_t *book, size_t book_length, size_t size, uint8_t *saved, size_t saved_length,
+                                  const uint8_t *packet, size_t packet_length, uint8_t *reply, size_t reply_length);
+
+/* ---- The link */
+
+enum { BAWBEENOR_UP = 0, BAWBEENOR_DOWN = 1, BAWBEENOR_LOST = 2 };
+
+/* Takes a link event: BAWBEENOR_UP the awaited media channel is there, BAWBEENOR_DOWN the media channel of our endpoint `seid` is
+   gone, BAWBEENOR_LOST the link is. `seid` counts for BAWBEENOR_DOWN only. 1 to 7, 12, 10 where no endpoint awaits a channel, where
+   the endpoint has none, or where `kind` is none of the three. BAWBEENOR_LOST always applies. */
+uint8_t bawbeenor_event(const uint8_t *book, size_t book_length, uint8_t *saved, size_t saved_length, uint8_t kind, uint8_t seid);
+
+/* ---- Questions about an endpoint of ours */
+
+enum { BAWBEENOR_NOWHERE = 0, BAWBEENOR_IN_BOOK = 1, BAWBEENOR_IN_SAVED = 2 };
+
+typedef struct {
+    uint8_t number;
+    uint8_t area;   /* which of the two areas */
+    size_t offset;  /* offset + length is within that area */
+    size_t length;  /* never 0 where the number is 0 */
+} bawbeenor_span;
+
+/* Where its settings stand: its configuration in the saved area, else what it offers in the book. They are good until the next call
+   that is lent the saved area. 1 to 7, 12, 10 where the book has no such SEID; a refusal has 0 in all fields but the number. */
+bawbeenor_span bawbeenor_settings(const uint8_t *book, size_t book_length, const uint8_t *saved, size_t saved_length, uint8_t seid);
+
+typedef struct {
+    uint8_t number;
+    bool reported;
+    uint16_t tenths; /* of a millisecond; 0 where nothing was reported */
+} bawbeenor_lag;
+
+/* The delay that the far end reported for it. 1 to 7, 12, 10 where the book has no such SEID; a refusal shows unreported. */
+bawbeenor_lag bawbeenor_delay(const uint8_t *book, size_t book_length, const uint8_t *saved, size_t saved_length, uint8_t seid);
+
+/* ---- The cutter: a message as packets of at most `size` octets, to be sent in a row */
+
+/* How many packets a payload of this length takes; 0 where the size is not 48 to 672 or the payload is above 512 octets. */
+size_t bawbeenor_packets(size_t size, size_t payload_length);
+
+typedef struct {
+    uint8_t number;
+    size_t length; /* of the packet that was written */
+} bawbeenor_written;
+
+/* Writes packet number `index`, counted from 0, at the front of `area`; `size` octets are always enough. 8, 11, 9. */
+bawbeenor_written bawbeenor_cut(size_t size, uint8_t label, uint8_t kind, uint8_t signal, const uint8_t *payload,
+                                size_t payload_length, size_t index, uint8_t *area, size_t area_length);
+
+#ifdef __cplusplus
+}
+#endif
+
+#endif
