@@ -1,0 +1,5 @@
+pub mod Lines
+pub mod Numbers
+pub mod Hexes
+pub mod Names
+pub mod Tables
