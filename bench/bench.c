@@ -1,5 +1,5 @@
-/* bench TRACE TURNS: makes the calls of a trace TURNS times over, through the archive. reference/src/bin/bench.rs writes traces from
-   scripts, and makes the same calls of the reference. */
+/* bench TRACE TURNS: makes the calls of a trace TURNS times over, through the archive. reference/src/bin/bench.rs writes traces
+   from scripts, and makes the same calls of the reference. */
 #include <stdio.h>
 #include <stdlib.h>
 #include <string.h>
@@ -90,7 +90,8 @@ int main(int argc, char **argv)
             case DELAY: sum += bawbeenor_delay(book, book_length, saved, lent, (uint8_t)s->numbers[0]).tenths; break;
             case CUT: {
                 bawbeenor_written a = bawbeenor_cut(s->numbers[0], (uint8_t)s->numbers[1], (uint8_t)s->numbers[2],
-                                                    (uint8_t)s->numbers[3], s->octets, s->length, s->numbers[5], area, s->numbers[4]);
+                                                    (uint8_t)s->numbers[3], s->octets, s->length, s->numbers[5], area,
+                                                    s->numbers[4]);
                 sum += a.number + a.length;
                 break;
             }

@@ -1,11 +1,12 @@
-/* Linked with the example host by --wrap: paints the stack below each call of the library, and after it looks how deep the paint is
-   gone. At exit prints the deepest of each call, in octets, from the caller's stack pointer before it passes arguments. */
+/* Linked with the example host by --wrap: paints the stack below each call of the library, and after it looks how deep the
+   paint is gone. At exit prints the deepest of each call, in octets, from the caller's stack pointer before it passes
+   arguments. */
 #include <stdio.h>
 #include <stdlib.h>
 
 #include "bawbeenor.h"
 
-enum { ROOM = 32768, NEAR = 256, PAINT = 0xA5 }; /* what is nearer than NEAR may be the wrapper's own */
+enum { ROOM = 32768, PAINT = 0xA5 };
 
 static const char *const names[] = { "check", "fresh", "packet", "event", "settings", "delay", "packets", "cut" };
 enum { CHECK, FRESH, PACKET, EVENT, SETTINGS, DELAY, PACKETS, CUT, CALLS };

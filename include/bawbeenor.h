@@ -10,8 +10,8 @@
      that are only read (const uint8_t *) may overlap each other, and nothing writes them during the call.
    - Calls over different areas may run at the same time.
 
-   A refusal (any number but 0) changes no octet of any area. Calls need some stack: docs/SPEED.md says how much. The archive needs
-   memcpy and memset of the C library and nothing else. */
+   A refusal (any number but 0) changes no octet of any area. Calls need some stack: docs/SPEED.md says how much. The archive
+   needs memcpy and memset of the C library and nothing else. */
 #ifndef BAWBEENOR_H
 #define BAWBEENOR_H
 
@@ -59,7 +59,9 @@ enum {
 uint8_t bawbeenor_check(const uint8_t *book, size_t book_length);
 
 /* ---- The saved connection: BAWBEENOR_SAVED(endpoints) octets, docs/SAVED.md draws them. The host keeps them between calls, and
-   through a restart if it likes: an area that holds no legal connection is told 12. Octets behind are never touched. */
+   through a restart if it likes: an area that holds no legal connection is told 12. Octets behind are never touched, and never
+   looked at: that a connection was begun over a book of more endpoints does not show. A host whose book can change keeps the
+   number of endpoints beside the area, and begins afresh where it differs. */
 
 /* Begins: every endpoint idle, nothing gathered. 1 to 7, or 12 where the area is too short. */
 uint8_t bawbeenor_fresh(const uint8_t *book, size_t book_length, uint8_t *saved, size_t saved_length);
@@ -76,8 +78,9 @@ typedef struct {
     size_t length;  /* of the payload, at the front of the reply area */
 } bawbeenor_answer;
 
-/* Takes one packet; `size` is the largest packet that the host takes. The reply's payload is written at the front of `reply`; the
-   octets behind it stay. 1 to 7, 8, 9 where the reply area is below 64 octets, 12. A refusal has 0 in all fields but the number. */
+/* Takes one packet; `size` is the largest packet that the host takes. The reply's payload is written at the front of `reply`;
+   the octets behind it stay. 1 to 7, 8, 9 where the reply area is below 64 octets, 12. A refusal has 0 in all fields but the
+   number. */
 bawbeenor_answer bawbeenor_packet(const uint8_t *book, size_t book_length, size_t size, uint8_t *saved, size_t saved_length,
                                   const uint8_t *packet, size_t packet_length, uint8_t *reply, size_t reply_length);
 
@@ -85,9 +88,9 @@ bawbeenor_answer bawbeenor_packet(const uint8_t *book, size_t book_length, size_
 
 enum { BAWBEENOR_UP = 0, BAWBEENOR_DOWN = 1, BAWBEENOR_LOST = 2 };
 
-/* Takes a link event: BAWBEENOR_UP the awaited media channel is there, BAWBEENOR_DOWN the media channel of our endpoint `seid` is
-   gone, BAWBEENOR_LOST the link is. `seid` counts for BAWBEENOR_DOWN only. 1 to 7, 12, 10 where no endpoint awaits a channel, where
-   the endpoint has none, or where `kind` is none of the three. BAWBEENOR_LOST always applies. */
+/* Takes a link event: BAWBEENOR_UP the awaited media channel is there, BAWBEENOR_DOWN the media channel of our endpoint `seid`
+   is gone, BAWBEENOR_LOST the link is. `seid` counts for BAWBEENOR_DOWN only. 1 to 7, 12, 10 where no endpoint awaits a
+   channel, where the endpoint has none, or where `kind` is none of the three. BAWBEENOR_LOST always applies. */
 uint8_t bawbeenor_event(const uint8_t *book, size_t book_length, uint8_t *saved, size_t saved_length, uint8_t kind, uint8_t seid);
 
 /* ---- Questions about an endpoint of ours */
@@ -101,9 +104,11 @@ typedef struct {
     size_t length;  /* never 0 where the number is 0 */
 } bawbeenor_span;
 
-/* Where its settings stand: its configuration in the saved area, else what it offers in the book. They are good until the next call
-   that is lent the saved area. 1 to 7, 12, 10 where the book has no such SEID; a refusal has 0 in all fields but the number. */
-bawbeenor_span bawbeenor_settings(const uint8_t *book, size_t book_length, const uint8_t *saved, size_t saved_length, uint8_t seid);
+/* Where its settings stand: its configuration in the saved area, else what it offers in the book. They are good until the next
+   call that is lent the saved area. 1 to 7, 12, 10 where the book has no such SEID; a refusal has 0 in all fields but the
+   number. */
+bawbeenor_span bawbeenor_settings(const uint8_t *book, size_t book_length, const uint8_t *saved, size_t saved_length,
+                                  uint8_t seid);
 
 typedef struct {
     uint8_t number;

@@ -1,5 +1,5 @@
-/* The constants of bawbeenor.h against the library: each limit holds where the header puts it, and not one further. Prints what does
-   not, and fails then. */
+/* The constants of bawbeenor.h against the library: each limit holds where the header puts it, and not one further. Prints what
+   does not, and fails then. */
 #include <stdio.h>
 
 #include "bawbeenor.h"

@@ -1,11 +1,12 @@
-/* A whole host of the library: an endpoint book, the saved connection in static memory, and a loop that takes packets and events and
-   sends what is to be sent. In a bridge the two ends of the loop are the L2CAP channel and the link; here both are lines of text:
+/* A whole host of the library: an endpoint book, the saved connection in static memory, and a loop that takes packets and
+   events and sends what is to be sent. In a bridge the two ends of the loop are the L2CAP channel and the link; here both are
+   lines of text:
 
      host [FILE]      (no FILE: standard input)
 
-   reads the steps of the replay program, one a line, and prints its answers, packets to be sent as `> HEX..`. Nothing is allocated,
-   and the library is given all its memory here. The steps `states`, `record` and `gathering` look into the saved connection
-   (docs/SAVED.md), as a test stand does; a bridge has no need of them. */
+   reads the steps of the replay program, one a line, and prints its answers, packets to be sent as `> HEX..`. Nothing is
+   allocated, and the library is given all its memory here. The steps `states`, `record` and `gathering` look into the saved
+   connection (docs/SAVED.md), as a test stand does; a bridge has no need of them. */
 #include <stdio.h>
 #include <string.h>
 
@@ -137,8 +138,8 @@ static void print_octets(const char *before, const uint8_t *from, size_t n)
         printf("%s%02X", before, from[i]);
 }
 
-/* ---- The book. A connection has one record for each entry. Its octets alone do not tell how many it has, so over a book of another
-   length it is lent as nothing, and told 12. */
+/* ---- The book. A connection has one record for each entry. Its octets alone do not tell how many it has, so over a book of
+   another length it is lent as nothing, and told 12. */
 
 static void keep_book(void)
 {

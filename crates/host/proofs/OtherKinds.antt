@@ -1,5 +1,5 @@
--- A kind of event that is none of the three is the channel of SEID 0 down, and a right book's SEIDs are 1 to 62: it is refused with
--- the book's number, with 12, or with 10, and changes nothing.
+-- A kind of event that is none of the three is the channel of SEID 0 down, and a right book's SEIDs are 1 to 62: it is refused
+-- with the book's number, with 12, or with 10, and changes nothing.
 use Prim.Native.Nat.{ℕ, zero, suc, _≤_}
 use native.Mathlib.Omega.{arith}
 use mathlib.Core.Path.{_≡_, refl, sym, ap, _∙_}
@@ -12,15 +12,14 @@ use Rattle.rules.specs.Octets.{between}
 use Rattle.rules.specs.Elements.{items}
 use Rattle.rules.specs.Book.{Entry, mediaType, listRight, bookNumber, bookOf, Found, unknown, known, find}
 use Rattle.rules.specs.Endpoints.{downAt, happens}
-use Rattle.rules.specs.Saved.{connectionIn}
-use Rattle.rules.specs.Host.{Kept, numberOr, refusalOf, eventCall}
+use Rattle.rules.specs.Host.{numberOr, refusalOf, eventCall}
 use Rattle.rules.specs.declared.Event.the-variants.{Down}
 use Rattle.rules.proofs.Tests.{Told?, told, passed, failed, and-l, between-least}
 use Rattle.rules.proofs.RightBook.{entryRight, right-book}
 use Rattle.rules.proofs.Places.{find-known}
 use Rattle.rules.proofs.ShortReplies.{entry-at}
 use Rattle.bridge.proofs.Refusing.{number-first, none-refused}
-use Rattle.bridge.proofs.Happened.{refused-event}
+use Rattle.bridge.proofs.Happened.{event-refused}
 use Rattle.host.specs.Exports.{ours, eventOf}
 
 pub no-kind : (kind seid : ℕ) → (kind ≡ 0 → ⊥) → (kind ≡ 1 → ⊥) → (kind ≡ 2 → ⊥) → Down (ours 0) ≡ eventOf kind seid
@@ -39,7 +38,8 @@ unfolding entryRight
 entry-seid n r =
     let seid = between 1 62 (n .seid .0) in
     let short = leb (length (n .caps)) 64 in
-    between-least 1 62 (n .seid .0) (and-l seid short (and-l (seid && short) (listRight (mediaType (n .kind)) (items (n .caps))) r))
+    let listed = listRight (mediaType (n .kind)) (items (n .caps)) in
+    between-least 1 62 (n .seid .0) (and-l seid short (and-l (seid && short) listed r))
 
 no-zero : (book : List ℕ) → bookNumber book ≡ 0 → find (ours 0) (bookOf book) ≡ unknown
 no-zero book right = go (find (ours 0) (bookOf book)) refl
@@ -64,7 +64,7 @@ zero-down book saved = go (told (eqb (refusalOf book saved) 0))
     go (failed t) =
         let n = refusalOf book saved in
         let h = eqb-false n 0 t in
-        sym (refused-event book saved (Down (ours 0)) n refl h)
+        sym (event-refused book saved (Down (ours 0)) n refl h)
         ∙ ap (λ (k : ℕ). record { number = k; saved = saved }) (number-first n 10 h)
 
 pub other-kind : (book saved : List ℕ) (kind seid : ℕ) → 3 ≤ kind

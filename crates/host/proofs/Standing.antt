@@ -1,5 +1,5 @@
--- Where an endpoint's settings stand: the octet of the record that tells the configuration's length decides between the two areas,
--- and the part there is what the settings call shows.
+-- Where an endpoint's settings stand: the octet of the record that tells the configuration's length decides between the two
+-- areas, and the part there is what the settings call shows.
 use Prim.Native.Nat.{ℕ, _+_, _*_, _-_, _≤_, _<_}
 use native.Mathlib.Omega.{arith}
 use mathlib.Core.Path.{_≡_, refl, sym, ap, _∙_}
@@ -8,9 +8,8 @@ use lib.ListN.{length, take, drop, getD, length-drop, length-take}
 use lib.Seq.{getD-drop, drop-drop}
 use lib.Dec.{eqb}
 use borrow.Author.Tests.{eq-eqb, ne-eqb, eqb-true, eqb-false}
-use Rattle.rules.specs.Octets.{if_then_else_}
 use Rattle.rules.specs.Walks.{placeIn}
-use Rattle.rules.specs.Saved.{gatheringRoom, recordRoom}
+use Rattle.rules.specs.Saved.{recordRoom}
 use Rattle.rules.specs.Host.{refusalOf, Shown, settingsCall}
 use Rattle.rules.specs.declared.Place.{Place}
 use Rattle.rules.specs.declared.Place.the-variants.{Unknown, Known}

@@ -1,5 +1,5 @@
--- The contracts of the calls that a host in C makes: the numbers that cross are those of the definition of the call, and so is every
--- lent area at exit.
+-- The contracts of the calls that a host in C makes: the numbers that cross are those of the definition of the call, and so is
+-- every lent area at exit.
 use Prim.Native.Nat.{ℕ, _+_, _*_, _≤_}
 use mathlib.Core.Path.{_≡_}
 use mathlib.Core.List.{List, [], _∷_}

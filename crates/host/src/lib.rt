@@ -1,5 +1,6 @@
-// The public calls for a host in C: `bridge`'s, over slices and numbers. A slice crosses as two parameters, where it begins and how
-// long it is; include/bawbeenor.h says the same in C. Each answers as the call of `bridge` with the same numbers, on every input.
+// The public calls for a host in C: `bridge`'s, over slices and numbers. A slice crosses as two parameters, where it begins and
+// how long it is; include/bawbeenor.h says the same in C. Each answers as the call of `bridge` with the same numbers, on every
+// input.
 mod events;
 
 use rules::OurSeid;
@@ -151,7 +152,15 @@ pub extern "C" fn bawbeenor_packets(size: usize, length: usize) -> usize
 }
 
 #[no_mangle]
-pub extern "C" fn bawbeenor_cut(size: usize, label: u8, kind: u8, signal: u8, payload: &[u8], index: usize, area: &mut [u8]) -> Written
+pub extern "C" fn bawbeenor_cut(
+    size: usize,
+    label: u8,
+    kind: u8,
+    signal: u8,
+    payload: &[u8],
+    index: usize,
+    area: &mut [u8],
+) -> Written
     ensures { λ r. ⌜ Cuts size label kind signal (now (payload .entry)) index (now (area .entry)) r (now (area .exit)) ⌝ }
 {
     let piece = bridge::cut(size, label, kind, signal, payload, index, area);

@@ -1,6 +1,6 @@
 -- `bawbeenor_event` meets its contract: the event that the two numbers mean happens.
 use borrow.Author.Needs.{needs}
-use mathlib.Core.Path.{_≡_, ap, _∙_}
+use mathlib.Core.Path.{ap, _∙_}
 use Rattle.rules.specs.Host.{eventCall}
 use Rattle.host.proofs.bawbeenor_event.Statement.{statement}
 use Rattle.host.proofs.bawbeenor_event.Tie as tie

@@ -1,7 +1,8 @@
--- `bawbeenor_settings` meets its contract: the number of the question, then the record's octet that tells the configuration's length.
+-- `bawbeenor_settings` meets its contract: the number of the question, then the record's octet that tells the configuration's
+-- length.
 use borrow.Author.Needs.{needs}
 use native.Mathlib.Omega.{arith}
-use mathlib.Core.Path.{_≡_, sym, _∙_}
+use mathlib.Core.Path.{sym, _∙_}
 use Prim.Native.Nat.{_+_, _≤_}
 use lib.ListN.{length}
 use Rattle.rules.specs.Saved.{recordRoom}
