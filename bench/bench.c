@@ -1,4 +1,5 @@
-/* bench TRACE TURNS: makes the calls of a trace TURNS times over, through the archive. reference/src/bin/bench.rs writes traces
+/* bench TRACE TURNS: makes the calls of a trace TURNS times over, through the archive; those behind a MEASURE step by `measured`, in
+   which the instructions are counted. reference/src/bin/bench.rs writes traces
    from scripts, and makes the same calls of the reference. */
 #include <stdio.h>
 #include <stdlib.h>
@@ -7,7 +8,7 @@
 #include "bawbeenor.h"
 
 /* A step: its kind, six numbers of 16 bits, low octet first, the length of its octets, and the octets. */
-enum { BOOK, REBOOK, SIZE, AREA, PACKET, UP, DOWN, LOST, SETTINGS, DELAY, CUT };
+enum { BOOK, REBOOK, SIZE, AREA, PACKET, UP, DOWN, LOST, SETTINGS, DELAY, CUT, MEASURE };
 
 typedef struct {
     unsigned kind, numbers[6];
@@ -41,6 +42,54 @@ static size_t read_trace(const char *name)
     return count;
 }
 
+static const uint8_t *book = trace;
+static size_t book_length, records, lent, size = 672, reply_length = 64;
+
+static inline __attribute__((always_inline)) uint64_t take(const step *s)
+{
+    switch (s->kind) {
+    case BOOK:
+        if (bawbeenor_fresh(s->octets, s->length, saved, sizeof saved) == 0) {
+            book = s->octets;
+            book_length = s->length;
+            records = book[5];
+            lent = BAWBEENOR_SAVED(records);
+        }
+        return 0;
+    case REBOOK:
+        if (bawbeenor_check(s->octets, s->length) == 0) {
+            book = s->octets;
+            book_length = s->length;
+            lent = records == book[5] ? BAWBEENOR_SAVED(records) : 0;
+        }
+        return 0;
+    case SIZE: size = s->numbers[0]; return 0;
+    case AREA: reply_length = s->numbers[0]; return 0;
+    case PACKET: {
+        bawbeenor_answer a = bawbeenor_packet(book, book_length, size, saved, lent, s->octets, s->length, reply, reply_length);
+        return a.number + a.length;
+    }
+    case UP:
+    case DOWN:
+    case LOST: return bawbeenor_event(book, book_length, saved, lent, (uint8_t)(s->kind - UP), (uint8_t)s->numbers[0]);
+    case SETTINGS: {
+        bawbeenor_span a = bawbeenor_settings(book, book_length, saved, lent, (uint8_t)s->numbers[0]);
+        return a.number + a.length;
+    }
+    case DELAY: return bawbeenor_delay(book, book_length, saved, lent, (uint8_t)s->numbers[0]).tenths;
+    case CUT: {
+        bawbeenor_written a =
+            bawbeenor_cut(s->numbers[0], (uint8_t)s->numbers[1], (uint8_t)s->numbers[2], (uint8_t)s->numbers[3], s->octets,
+                          s->length, s->numbers[5], area, s->numbers[4]);
+        return a.number + a.length;
+    }
+    }
+    return 0;
+}
+
+__attribute__((noinline, noclone)) uint64_t measured(const step *s);
+uint64_t measured(const step *s) { return take(s); }
+
 int main(int argc, char **argv)
 {
     if (argc != 3) {
@@ -48,54 +97,15 @@ int main(int argc, char **argv)
         return 1;
     }
     size_t count = read_trace(argv[1]);
-    const uint8_t *book = trace;
-    size_t book_length = 0, records = 0, lent = 0, size = 672, reply_length = 64;
     uint64_t sum = 0;
-    for (long turn = atol(argv[2]); turn > 0; turn--)
+    for (long turn = atol(argv[2]); turn > 0; turn--) {
+        bool measuring = false;
         for (const step *s = steps; s < steps + count; s++)
-            switch (s->kind) {
-            case BOOK:
-                if (bawbeenor_fresh(s->octets, s->length, saved, sizeof saved) == 0) {
-                    book = s->octets;
-                    book_length = s->length;
-                    records = book[5];
-                    lent = BAWBEENOR_SAVED(records);
-                }
-                break;
-            case REBOOK:
-                if (bawbeenor_check(s->octets, s->length) == 0) {
-                    book = s->octets;
-                    book_length = s->length;
-                    lent = records == book[5] ? BAWBEENOR_SAVED(records) : 0;
-                }
-                break;
-            case SIZE: size = s->numbers[0]; break;
-            case AREA: reply_length = s->numbers[0]; break;
-            case PACKET: {
-                bawbeenor_answer a =
-                    bawbeenor_packet(book, book_length, size, saved, lent, s->octets, s->length, reply, reply_length);
-                sum += a.number + a.length;
-                break;
-            }
-            case UP:
-            case DOWN:
-            case LOST:
-                sum += bawbeenor_event(book, book_length, saved, lent, (uint8_t)(s->kind - UP), (uint8_t)s->numbers[0]);
-                break;
-            case SETTINGS: {
-                bawbeenor_span a = bawbeenor_settings(book, book_length, saved, lent, (uint8_t)s->numbers[0]);
-                sum += a.number + a.length;
-                break;
-            }
-            case DELAY: sum += bawbeenor_delay(book, book_length, saved, lent, (uint8_t)s->numbers[0]).tenths; break;
-            case CUT: {
-                bawbeenor_written a = bawbeenor_cut(s->numbers[0], (uint8_t)s->numbers[1], (uint8_t)s->numbers[2],
-                                                    (uint8_t)s->numbers[3], s->octets, s->length, s->numbers[5], area,
-                                                    s->numbers[4]);
-                sum += a.number + a.length;
-                break;
-            }
-            }
+            if (s->kind == MEASURE)
+                measuring = true;
+            else
+                sum += measuring ? measured(s) : take(s);
+    }
     printf("%llu\n", (unsigned long long)sum);
     return 0;
 }

@@ -1,7 +1,8 @@
 //! What `bin/bench` compares the library with: the reference with the same duties, the book judged at every call.
 //!
 //! `bench --trace` writes the steps of a script, from standard input, as a trace (its form: bench/bench.c). Lines that
-//! overwrite or show the saved connection, and lines that are not understood, are left out.
+//! overwrite or show the saved connection, and lines that are not understood, are left out; `explain`, which no call hangs
+//! on, stands for "measure from here on".
 //! `bench --count TRACE` counts the calls of a trace.
 //! `bench TRACE TURNS` makes the calls of a trace TURNS times over.
 #![allow(dead_code)]
@@ -84,7 +85,8 @@ fn write_step(out: &mut impl Write, step: Step) -> io::Result<()> {
         Step::Cut { size, message: m, area, number } => {
             (10, [size, m.label.into(), m.message_type.into(), m.signal.into(), area, number], m.payload)
         }
-        Step::States | Step::Record(_) | Step::Gathering(_) | Step::Explain => return Ok(()),
+        Step::Explain => (11, [0; 6], Vec::new()),
+        Step::States | Step::Record(_) | Step::Gathering(_) => return Ok(()),
     };
     out.write_all(&[kind])?;
     for number in numbers {
@@ -104,11 +106,12 @@ enum Call<'a> {
     Settings(OurSeid),
     Delay(OurSeid),
     Cut { size: usize, message: Message, area: usize, number: usize },
+    Measure,
 }
 
 impl Call<'_> {
     fn is_call(&self) -> bool {
-        !matches!(self, Call::Size(_) | Call::Area(_))
+        !matches!(self, Call::Size(_) | Call::Area(_) | Call::Measure)
     }
 }
 
@@ -130,6 +133,7 @@ fn read_trace(mut octets: &[u8]) -> Vec<Call<'_>> {
             7 => Call::Event(Event::Lost),
             8 => Call::Settings(seid),
             9 => Call::Delay(seid),
+            11 => Call::Measure,
             _ => Call::Cut {
                 size: pair(0).into(),
                 message: Message {
@@ -161,11 +165,23 @@ fn run(calls: &[Call], turns: u64) -> u64 {
         Host { book: &[], connection: Connection { records: Vec::new(), gathering: None }, size: 672, area: 64 };
     let mut sum = 0;
     for _ in 0..turns {
+        let mut measuring = false;
         for call in calls {
-            sum += host.call(call);
+            match call {
+                Call::Measure => measuring = true,
+                call if measuring => sum += measured(&mut host, call),
+                call => sum += host.call(call),
+            }
         }
     }
     sum
+}
+
+/// The function in which the instructions are counted.
+#[no_mangle]
+#[inline(never)]
+fn measured<'a>(host: &mut Host<'a>, call: &Call<'a>) -> u64 {
+    host.call(call)
 }
 
 impl<'a> Host<'a> {
@@ -206,6 +222,7 @@ impl<'a> Host<'a> {
                 Ok(packet) => black_box(packet).len() as u64,
                 Err(number) => number.into(),
             },
+            Call::Measure => 0,
         }
     }
 
