@@ -3,15 +3,17 @@
 -- these is carried over.
 use Prim.Native.Nat.{ℕ}
 use mathlib.Core.Path.{_≡_, refl, sym, ap, _∙_}
-use mathlib.Core.List.{List, _∷_}
+use mathlib.Core.List.{List, [], _∷_}
 use mathlib.Core.Bool.{true, false}
 use mathlib.Core.Option.{none}
 use lib.ListN.{length}
 use Rattle.rules.specs.Octets.{some-of}
 use Rattle.rules.specs.Book.{bookNumber, bookOf}
 use Rattle.rules.specs.Saved.{connectionIn, savedRight}
-use Rattle.rules.specs.Host.{Heard, Cut}
-use Rattle.rules.specs.Sessions.{Call, Answer, number, heard, cutOff, Done, kept, answered, asked, call, answers, after}
+use Rattle.rules.specs.Host.{packetCall, Heard, delayCall, Cut, cutCall}
+use Rattle.rules.specs.Wires.{cutBy}
+use Rattle.rules.specs.Sessions.{Call, check, fresh, packet, event, settingsTold, delay, packets, cut}
+use Rattle.rules.specs.Sessions.{Answer, number, heard, cutOff, Done, kept, answered, asked, call, answers, after}
 use Rattle.rules.specs.Alike.{alike, restrained, Begins, noneReported}
 use Rattle.rules.proofs.SavedStaysRight.{always-legal}
 use Rattle.rules.proofs.Never12.{is12, none-answers-12}
@@ -51,6 +53,32 @@ defined book saved _ _ _ (goes _ c a next calls said last m rest) =
         ∙ ap (λ (s : List ℕ). call book saved c .answer ∷ answers book s calls) there;
       left = d .left ∙ ap (λ (s : List ℕ). after book s calls) there
     }
+
+-- And such a host there is, for every sequence: the definitions' own answers meet the contracts.
+meets-any : (book saved : List ℕ) (c : Call) → Meets book saved c (call book saved c .answer) (call book saved c .saved)
+unfolding call kept answered asked cutBy
+meets-any book saved check = checks _ refl
+meets-any book saved fresh = freshens _ _ refl
+meets-any book saved (packet size p reply) =
+    let t = packetCall book size saved p reply .told in
+    takes size p reply
+      (record { number = t .number; label = t .label; kind = t .type; signal = t .signal; length = t .length }) _ _ refl
+meets-any book saved (event e) = happens e _ _ refl
+meets-any book saved (settingsTold s) = shows s _ refl
+meets-any book saved (delay s) =
+    let h = delayCall book saved s in
+    hears s (record { number = h .number; reported = h .reported; tenths = h .tenths }) refl
+meets-any book saved (packets size n) = counts size n _ refl
+meets-any book saved (cut size m index area) =
+    let c = cutCall size m index area in
+    cuts size (m .label) (m .type) (m .signal) (m .payload) index area
+      (record { number = c .number; length = c .length }) (c .area) refl
+
+pub runs-any : (book saved : List ℕ) (calls : List Call) → Runs book saved calls (answers book saved calls) (after book saved calls)
+unfolding answers after
+runs-any book saved [] = ended saved
+runs-any book saved (c ∷ calls) =
+    goes saved c _ (call book saved c .saved) calls _ _ (meets-any book saved c) (runs-any book (call book saved c .saved) calls)
 
 -- A host that begins with a right area keeps one, and is never told 12.
 pub record Legal (book : List ℕ) (said : List Answer) (last : List ℕ) : Type 0 where
