@@ -24,10 +24,10 @@ use Rattle.book.proofs.Found.{entryBy, found-as, Placed, placed}
 use Rattle.saved.specs.Records.{loaded, endpointOf, recordAt, configAt}
 use Rattle.saved.specs.declared.records.Endpoint.{Endpoint as Head}
 use Rattle.saved.proofs.OneStore.{loaded-one}
-use Rattle.replies.proofs.Serving.{misses}
-use Rattle.links.proofs.Awaits.{has-room}
+use Rattle.commands_reply.proofs.Serving.{misses}
+use Rattle.saved_events.proofs.Awaits.{has-room}
 use Rattle.bridge.specs.Calls.{Hears}
-use Rattle.takes.proofs.Halves.{behind-whole}
+use Rattle.bridge_packet.proofs.Halves.{behind-whole}
 use Rattle.bridge.proofs.Refusing.{Calm}
 
 module _ (book saved : List ℕ) (s : OurSeid) where

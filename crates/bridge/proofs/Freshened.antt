@@ -13,7 +13,7 @@ use Rattle.rules.specs.Saved.{gatheringRoom, recordRoom, areaFor, storeEnds, st
 use Rattle.rules.specs.Host.{numberOr, checkCall, freshCall}
 use Rattle.rules.proofs.SavedReads.{records-room}
 use Rattle.bridge.specs.Calls.{Freshens}
-use Rattle.takes.proofs.Halves.{behind-whole}
+use Rattle.bridge_packet.proofs.Halves.{behind-whole}
 use Rattle.bridge.proofs.Halves.{cleared-back}
 use Rattle.bridge.proofs.Refusing.{book-first}
 

@@ -9,7 +9,7 @@ use lib.ListN.{length, take, set}
 use borrow.Rule.Slice.PartMut.{putMid}
 use Rattle.rules.specs.Octets.{front}
 use Rattle.rules.specs.Saved.{gatheringRoom, storeGathering}
-use Rattle.takes.proofs.Halves.{tail-back}
+use Rattle.bridge_packet.proofs.Halves.{tail-back}
 
 cleared : (k : ℕ) (l records : List ℕ) → 1 ≤ length l
   → set (take (suc k) l ++ records) 0 0 ≡ front (0 ∷ []) (take (suc k) l) ++ records

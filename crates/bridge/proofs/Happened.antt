@@ -19,9 +19,9 @@ use Rattle.rules.specs.declared.Event.the-variants.{Up, Down, Lost}
 use Rattle.rules.proofs.Tests.{Told?, told, passed, failed}
 use Rattle.rules.proofs.SavedReads.{octets-take, gathering-kept}
 use Rattle.saved.specs.Held.{Held}
-use Rattle.links.specs.Events.{Turned, upped, downed, downedAt, allIdle}
+use Rattle.saved_events.specs.Events.{Turned, upped, downed, downedAt, allIdle}
 use Rattle.bridge.specs.Calls.{Happens}
-use Rattle.takes.proofs.Halves.{behind-whole, tail-back}
+use Rattle.bridge_packet.proofs.Halves.{behind-whole, tail-back}
 use Rattle.bridge.proofs.Halves.{cleared-back}
 use Rattle.bridge.proofs.Refusing.{number-first, Calm}
 

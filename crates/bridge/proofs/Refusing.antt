@@ -15,8 +15,8 @@ use Rattle.rules.specs.Saved.{gatheringRoom, areaFor, savedRight}
 use Rattle.rules.specs.Host.{numberOr, savedNumber, refusalOf, packetRefusal, Told, nothingSaid, Answered, packetCall}
 use Rattle.rules.proofs.SavedReads.{octets-known}
 use Rattle.rules.proofs.SavedStaysRight.{right-long}
-use Rattle.legal.proofs.RightSaved.{Right, right-saved}
-use Rattle.takes.specs.Taken.{Takes, taken}
+use Rattle.saved_legal.proofs.RightSaved.{Right, right-saved}
+use Rattle.bridge_packet.specs.Taken.{Takes, taken}
 
 -- ---- A number that is not 0 goes before what is tested after it
 

@@ -34,7 +34,7 @@ pub fn fresh(book: &[u8], saved: &mut [u8]) -> u8
     if saved.len() < 520 + book::places::count(book) * 80 {
         return 12;
     }
-    begins::begin(book, &mut saved[520..]);
+    saved_fresh::begin(book, &mut saved[520..]);
     saved[0] = 0;
     0
 }
@@ -46,9 +46,9 @@ pub fn packet(book: &[u8], size: usize, saved: &mut [u8], packet: &[u8], reply: 
 {
     let number = refusals::packet_refusal(book, size, saved, reply);
     if number != 0 {
-        return takes::nothing(number);
+        return bridge_packet::nothing(number);
     }
-    takes::take(book, size, saved, packet, reply)
+    bridge_packet::take(book, size, saved, packet, reply)
 }
 
 // Takes a link event: the awaited channel is up, the channel of one of our SEIDs is down, the link is lost.
@@ -60,10 +60,10 @@ pub fn event(book: &[u8], saved: &mut [u8], event: Event) -> u8
         return number;
     }
     match event {
-        Event::Up => links::up(&mut saved[520..], book::places::count(book)),
-        Event::Down(seid) => links::down(book, &mut saved[520..], seid),
+        Event::Up => saved_events::up(&mut saved[520..], book::places::count(book)),
+        Event::Down(seid) => saved_events::down(book, &mut saved[520..], seid),
         Event::Lost => {
-            links::lost(&mut saved[520..], book::places::count(book));
+            saved_events::lost(&mut saved[520..], book::places::count(book));
             saved[0] = 0;
             0
         }
@@ -145,12 +145,12 @@ pub fn delay(book: &[u8], saved: &[u8], seid: OurSeid) -> Heard
 pub fn packets(size: usize, length: usize) -> usize
     ensures { λ r. ⌜ r ≡ packetsCall size length ⌝ }
 {
-    cuts::packets(size, length)
+    packets_cut::packets(size, length)
 }
 
 // Writes packet number `index` of a message, counted from 0, at the front of `area`.
 pub fn cut(size: usize, label: u8, kind: u8, signal: u8, payload: &[u8], index: usize, area: &mut [u8]) -> Piece
     ensures { λ r. ⌜ Cuts size label kind signal (now (payload .entry)) index (now (area .entry)) r (now (area .exit)) ⌝ }
 {
-    cuts::cut(size, label, kind, signal, payload, index, area)
+    packets_cut::cut(size, label, kind, signal, payload, index, area)
 }

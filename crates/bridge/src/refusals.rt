@@ -9,7 +9,7 @@ fn saved_number(book: &[u8], saved: &[u8]) -> u8
     requires { ⌜ bookNumber (now book) ≡ 0 ⌝ }
     ensures { λ r. ⌜ r ≡ savedNumber (now (book .entry)) (now (saved .entry)) ⌝ }
 {
-    if legal::saved_right(book, saved) {
+    if saved_legal::saved_right(book, saved) {
         return 0;
     }
     12

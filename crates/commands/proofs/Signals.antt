@@ -12,8 +12,8 @@ use Rattle.rules.specs.Host.{payloadOf}
 use Rattle.rules.specs.Answers.{saidOf, did}
 use Rattle.rules.specs.declared.Said.{Said}
 use Rattle.saved.specs.Serves.{Serves}
-use Rattle.replies.specs.Obeys.{endsOf, Obeys}
-use Rattle.replies.proofs.Serving.{obeys-stay}
+use Rattle.commands_reply.specs.Obeys.{endsOf, Obeys}
+use Rattle.commands_reply.proofs.Serving.{obeys-stay}
 use Rattle.commands.specs.Messages.{answering}
 
 -- 00, and what stands behind 13

@@ -5,7 +5,7 @@ ghost use mathlib.Core.Path.{_≡_};
 ghost use Rattle.rules.specs.Commands.{signalOf};
 ghost use Rattle.rules.specs.Commands.{obey as obeying};
 ghost use Rattle.saved.specs.Serves.{Serves};
-ghost use Rattle.replies.specs.Obeys.{Obeys};
+ghost use Rattle.commands_reply.specs.Obeys.{Obeys};
 ghost use Rattle.commands.specs.Messages.{answering};
 
 // A command, by its signal: 00 and what stands behind 0D are unassigned.
@@ -15,20 +15,20 @@ pub fn obey(signal: u8, book: &[u8], records: &mut [u8], payload: &[u8], reply: 
         (now (reply .entry)) r (now (records .exit)) (now (reply .exit)) ⌝ }
 {
     match signal {
-        1 => asks::discovers::discover(book, records, payload, reply),
-        2 => asks::shows::get_capabilities(book, records, payload, reply),
-        3 => sets::settings::set_configuration(book, records, payload, reply),
-        4 => asks::shows::get_configuration(book, records, payload, reply),
-        5 => sets::renewals::reconfigure(book, records, payload, reply),
-        6 => updates::opens::open_up(book, records, payload, reply),
-        7 => turns::streams::start(book, records, payload, reply),
-        8 => turns::leaves::close(book, records, payload, reply),
-        9 => turns::streams::suspend(book, records, payload, reply),
-        10 => turns::leaves::abort(book, records, payload, reply),
-        11 => asks::shows::security_control(book, records, payload, reply),
-        12 => asks::shows::get_all_capabilities(book, records, payload, reply),
-        13 => updates::delays::delay_report(book, records, payload, reply),
-        _ => replies::general(),
+        1 => commands_show::discovers::discover(book, records, payload, reply),
+        2 => commands_show::shows::get_capabilities(book, records, payload, reply),
+        3 => commands_set::settings::set_configuration(book, records, payload, reply),
+        4 => commands_show::shows::get_configuration(book, records, payload, reply),
+        5 => commands_set::renewals::reconfigure(book, records, payload, reply),
+        6 => commands_update::opens::open_up(book, records, payload, reply),
+        7 => commands_stream::streams::start(book, records, payload, reply),
+        8 => commands_stream::leaves::close(book, records, payload, reply),
+        9 => commands_stream::streams::suspend(book, records, payload, reply),
+        10 => commands_stream::leaves::abort(book, records, payload, reply),
+        11 => commands_show::shows::security_control(book, records, payload, reply),
+        12 => commands_show::shows::get_all_capabilities(book, records, payload, reply),
+        13 => commands_update::delays::delay_report(book, records, payload, reply),
+        _ => commands_reply::general(),
     }
 }
 
@@ -39,7 +39,7 @@ pub fn answer(kind: u8, signal: u8, book: &[u8], records: &mut [u8], payload: &[
         (now (reply .entry)) r (now (records .exit)) (now (reply .exit)) ⌝ }
 {
     if kind != 0 {
-        return replies::silent();
+        return commands_reply::silent();
     }
     obey(signal, book, records, payload, reply)
 }

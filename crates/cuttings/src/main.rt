@@ -117,7 +117,7 @@ fn differs(
     ensures { λ r. ⌜ r ≤ 1 ⌝ }
 {
     wipe(area);
-    let piece = cuts::cut(size, LABEL, KIND, SIGNAL, payload, index, area);
+    let piece = packets_cut::cut(size, LABEL, KIND, SIGNAL, payload, index, area);
     if piece.number != told.number {
         return 1;
     }
@@ -142,7 +142,7 @@ fn message(size: usize, payload: &[u8], area: &mut Area, expected: &mut Area) ->
         length: 0,
     };
     let mut different = differs(size, payload, count, refused, area, expected);
-    if cuts::packets(size, payload.len()) != count {
+    if packets_cut::packets(size, payload.len()) != count {
         different += 1;
     }
     let mut left = payload.len();

@@ -17,7 +17,7 @@ use Rattle.rules.proofs.Tests.{Told?, told, passed, failed}
 use Rattle.octets.specs.Patch.{part}
 use Rattle.saved.specs.Records.{configAt}
 use Rattle.saved.proofs.Configs.{size-short, config-part}
-use Rattle.takes.proofs.Halves.{behind-whole}
+use Rattle.bridge_packet.proofs.Halves.{behind-whole}
 use Rattle.bridge.proofs.Refusing.{Calm, calm}
 use Rattle.bridge.proofs.Asked.{refused-shown, missing-shown, there-shown, record-there, config-fits, offer-inside, offer-shown}
 use Rattle.bridge.proofs.Asked.{config-shown}

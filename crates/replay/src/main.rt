@@ -1,26 +1,26 @@
 // Runs a script of packets and events against the bridge, line by line, and writes the bridge's answers. Every line gets its answer,
 // or `line K not understood`; nothing ends the run but the end of the input.
-use answers::says::flush;
-use answers::says::say_around;
-use answers::state::AREA;
-use answers::state::BOOK;
-use answers::state::EXPLAINS;
-use answers::state::LENGTH;
-use answers::state::LINES;
-use answers::state::SIZE;
-use answers::state::State;
+use replay_answers::says::flush;
+use replay_answers::says::say_around;
+use replay_answers::state::AREA;
+use replay_answers::state::BOOK;
+use replay_answers::state::EXPLAINS;
+use replay_answers::state::LENGTH;
+use replay_answers::state::LINES;
+use replay_answers::state::SIZE;
+use replay_answers::state::State;
 use libc::STDIN_FILENO;
-use script::lines;
-use script::names;
-use steps::arrivals;
-use steps::books;
-use steps::cutting;
-use steps::events;
-use steps::options;
-use steps::overwrites;
-use steps::questions;
-use steps::reasons;
-use words::notes;
+use replay_script::lines;
+use replay_script::names;
+use replay_steps::arrivals;
+use replay_steps::books;
+use replay_steps::cutting;
+use replay_steps::events;
+use replay_steps::options;
+use replay_steps::overwrites;
+use replay_steps::questions;
+use replay_steps::reasons;
+use replay_words::notes;
 
 // The steps that are given a book.
 fn with_book(

@@ -5,7 +5,7 @@ use mathlib.Core.Bool.{true}
 use Rattle.rules.specs.Book.{bookNumber}
 use Rattle.rules.specs.Packets.{sizeRight}
 use Rattle.rules.specs.Host.{packetRefusal}
-use Rattle.cuts.proofs.Cutter.{size-small, size-large, size-right}
+use Rattle.packets_cut.proofs.Cutter.{size-small, size-large, size-right}
 use Rattle.bridge.proofs.Refusing.{book-first, size-refused, reply-refused, saved-last}
 use Rattle.bridge.proofs.refusals.packet_refusal.Statement.{statement}
 use Rattle.bridge.proofs.refusals.packet_refusal.Tie as tie

@@ -1,0 +1,12 @@
+-- `general` meets its contract: what is said computes.
+use mathlib.Core.Path.{refl}
+use Rattle.rules.specs.Answers.{saidOf}
+use Rattle.commands_reply.proofs.general.Statement.{statement}
+use Rattle.commands_reply.proofs.general.Tie as tie
+
+returns : tie.Need-returns
+unfolding saidOf
+returns c = refl
+
+pub general-spec : {M : Type 1} → statement M
+general-spec = tie.close (tie.spec returns)

@@ -1,0 +1,12 @@
+-- `silent` meets its contract: what is said computes.
+use mathlib.Core.Path.{refl}
+use Rattle.rules.specs.Answers.{saidOf}
+use Rattle.commands_reply.proofs.silent.Statement.{statement}
+use Rattle.commands_reply.proofs.silent.Tie as tie
+
+returns : tie.Need-returns
+unfolding saidOf
+returns c = refl
+
+pub silent-spec : {M : Type 1} → statement M
+silent-spec = tie.close (tie.spec returns)

@@ -1,0 +1,99 @@
+-- `renew` meets its contract: the stored configuration is copied, passes its check, and with the new elements is written anew.
+use Prim.Native.Nat.{_≤_}
+use mathlib.Core.Path.{_≡_, refl, sym, _∙_}
+use native.Mathlib.Omega.{arith}
+use lib.ListN.{length, take}
+use lib.Seq.{length-take-le}
+use borrow.Author.Needs.{needs}
+use Rattle.saved.specs.Records.{configAt}
+use Rattle.commands_set.proofs.Anew.{renew-reads, size-short, copy-fits, copied, old-short, never, renew-keeps, renew-writes}
+use Rattle.commands_set.proofs.renewals.renew.Statement.{statement}
+use Rattle.commands_set.proofs.renewals.renew.Tie as tie
+
+cast-size : tie.Need-cast-size
+cast-size c = search needs
+
+slice-aggregate-put : tie.Need-slice-aggregate-put
+slice-aggregate-put c = search needs
+
+abbrev start-of : tie.After-config-arg → tie.Start
+start-of c = c .before .before .before .before .before .before
+
+config-requires : tie.Need-config-requires
+config-requires c κs = renew-reads (start-of c .pre)
+
+put-requires : tie.Need-put-requires
+put-requires c κs = copy-fits (start-of (c .before) .pre) (c .config .ensures)
+
+-- the copy is as long as it was before
+copy-room : (c : tie.After-copy2) → start-of (c .before .before .before) .args .head .length ≤ length (c .before .put .last .0)
+copy-room c = omega (arith, size-short (start-of (c .before .before .before) .pre), c .before .put .kept)
+
+-- what is lent of it is what is stored
+old-same : (c : tie.After-copy3)
+  → let args = start-of (c .before .before .before .before) .args in
+    take (args .head .length) (c .before .before .put .last .0) ≡ configAt (args .index) (args .records .now)
+old-same c =
+    let put = c .before .before in
+    copied (start-of (put .before .before) .pre) (put .before .config .ensures) _ refl (put .put .ensures)
+
+array-share-prefix-copy : tie.Need-array-share-prefix-copy
+array-share-prefix-copy c = copy-room c
+
+slice-aggregate-old : tie.Need-slice-aggregate-old
+slice-aggregate-old c = sym (length-take-le _ _ (copy-room (c .before)))
+
+setting-requires : tie.Need-setting-requires
+setting-requires c κs = old-short (start-of (c .before .before .before .before) .pre) (old-same c)
+
+enum-told : tie.Need-enum-told
+enum-told c = search needs
+
+enum-known-walked : tie.Need-enum-known-walked
+enum-known-walked c = search needs
+
+keep-requires : tie.Need-keep-requires
+keep-requires c κs =
+    let clean = c .before .before in
+    let checked = clean .before .before in
+    renew-keeps (start-of (checked .before .before .before .before .before) .pre) (old-same (checked .before))
+      (sym (checked .setting .ensures) ∙ clean .walked .given .1)
+
+same-length : tie.Need-same-length
+same-length c = search needs
+
+returns : tie.Need-returns
+returns c =
+    let checked = c .before .before in
+    never (start-of (checked .before .before .before .before .before) .pre) (old-same (checked .before))
+      (sym (checked .setting .ensures) ∙ c .enum-told .given .1)
+
+same-length-2 : tie.Need-same-length-2
+same-length-2 c = search needs
+
+returns-2 : tie.Need-returns-2
+returns-2 c =
+    let kept = c .before .before in
+    let clean = kept .before .before .before in
+    let checked = clean .before .before in
+    renew-writes (start-of (checked .before .before .before .before .before) .pre) (old-same (checked .before))
+      (sym (checked .setting .ensures) ∙ clean .walked .given .1) (kept .keep .ensures)
+
+pub renew-spec : {M : Type 1} → statement M
+renew-spec =
+    tie.close
+    (tie.spec
+    cast-size
+    slice-aggregate-put
+    config-requires
+    put-requires
+    array-share-prefix-copy
+    slice-aggregate-old
+    setting-requires
+    enum-told
+    enum-known-walked
+    keep-requires
+    same-length
+    returns
+    same-length-2
+    returns-2)

@@ -1,0 +1,184 @@
+-- `set_at` meets its contract: each way out has passed the checks before it, and what it says and writes is a law of `Sets`.
+use Prim.Native.Nat.{ℕ}
+use mathlib.Core.Path.{_≡_, sym, ap, _∙_}
+use mathlib.Core.List.{List}
+use mathlib.Core.Bool.{true}
+use lib.ListN.{take, drop, getD}
+use borrow.Author.Needs.{needs}
+use borrow.Author.Tests.{not-true, not-false}
+use Rattle.rules.specs.Elements.{items}
+use Rattle.rules.specs.Walks.{settingOf}
+use Rattle.rules.specs.Endpoints.{isIdle, farRight}
+use Rattle.rules.specs.Commands.{farIn}
+use Rattle.octets.specs.Patch.{part}
+use Rattle.commands_set.proofs.Doings.{met}
+use Rattle.commands_set.proofs.Sets.{set-keeps, busy-refused, far-refused, fault-refused, set-moves}
+use Rattle.commands_set.proofs.settings.set_at.Statement.{statement}
+use Rattle.commands_set.proofs.settings.set_at.Tie as tie
+
+-- ---- What is known on the way
+
+abbrev start-of : tie.After-get → tie.Start
+start-of c = c .before .before .before .before .before .before
+
+free : (c : tie.Else1) → isIdle (c .before .before .get .result .state) ≡ true
+free c = sym (c .before .is-idle .ensures) ∙ not-false _ (c .if1 .left)
+
+right : (c : tie.Else2)
+  → farRight (farIn (getD (start-of (c .before .before .before .before .before) .args .payload .now) 1 0)) ≡ true
+unfolding farIn
+right c = sym (c .before .far-right .ensures) ∙ not-false _ (c .if2 .left)
+
+found : (c : tie.After-set-elements)
+  → let args = start-of (c .before .before .before .before .before .before .before) .args in
+    c .set-elements .result ≡ settingOf (items (take (args .size) (drop (args .from) (args .book .now)))) (args .payload .now) 2
+unfolding part
+found c =
+    let args = start-of (c .before .before .before .before .before .before .before) .args in
+    c .set-elements .ensures ∙ ap (λ (l : List ℕ). settingOf (items l) (args .payload .now) 2) (c .before .part .ensures)
+
+get-requires : tie.Need-get-requires
+get-requires c κs = let start = c .before .before .before .before .before in met (start .pre .0) (start .pre .2) .inside
+
+is-idle-requires : tie.Need-is-idle-requires
+is-idle-requires c κs = search needs
+
+rejected-for-requires : tie.Need-rejected-for-requires
+rejected-for-requires c κs = search needs
+
+same-length : tie.Need-same-length
+same-length c = search needs
+
+same-length-2 : tie.Need-same-length-2
+same-length-2 c = search needs
+
+returns : tie.Need-returns
+returns c =
+    let busy = c .before .before .before .before in
+    let got = busy .before .before in
+    let start = start-of got in
+    busy-refused (start .pre .0) (start .pre .2) (start .pre .1) (got .get .ensures)
+      (sym (busy .before .is-idle .ensures) ∙ not-true _ (busy .if1 .taken)) (c .before .before .rejected-for .ensures)
+
+shared-slice-read-t22 : tie.Need-shared-slice-read-t22
+shared-slice-read-t22 c = search needs
+
+far-right-requires : tie.Need-far-right-requires
+far-right-requires c κs = search needs
+
+rejected-for-requires-2 : tie.Need-rejected-for-requires-2
+rejected-for-requires-2 c κs = search needs
+
+same-length-3 : tie.Need-same-length-3
+same-length-3 c = search needs
+
+same-length-4 : tie.Need-same-length-4
+same-length-4 c = search needs
+
+returns-2 : tie.Need-returns-2
+unfolding farIn
+returns-2 c =
+    let wrong = c .before .before .before .before in
+    let idle = wrong .before .before .before in
+    let got = idle .before .before in
+    let start = start-of got in
+    far-refused (start .pre .0) (start .pre .2) (start .pre .1) (got .get .ensures) (free idle)
+      (sym (wrong .before .far-right .ensures) ∙ not-true _ (wrong .if2 .taken)) (c .before .before .rejected-for2 .ensures)
+
+part-requires : tie.Need-part-requires
+part-requires c κs =
+    let start = start-of (c .before .before .before .before .before) in
+    met (start .pre .0) (start .pre .2) .placed .inside
+
+set-elements-requires : tie.Need-set-elements-requires
+set-elements-requires c κs = search needs
+
+enum-known-walked : tie.Need-enum-known-walked
+enum-known-walked c = search needs
+
+rejected-for-requires-3 : tie.Need-rejected-for-requires-3
+rejected-for-requires-3 c κs = search needs
+
+enum-known-walked-2 : tie.Need-enum-known-walked-2
+enum-known-walked-2 c = search needs
+
+settled-requires : tie.Need-settled-requires
+settled-requires c κs = search needs
+
+none-requires : tie.Need-none-requires
+none-requires c κs = search needs
+
+keep-requires : tie.Need-keep-requires
+keep-requires c κs =
+    let clean = c .before .before .before .before in
+    let checked = clean .before .before in
+    let start = start-of (checked .before .before .before .before .before .before .before) in
+    set-keeps (start .pre .0) (start .pre .2) (sym (found checked) ∙ clean .walked2 .given .1) (c .none .ensures)
+
+accepted-requires : tie.Need-accepted-requires
+accepted-requires c κs = search needs
+
+same-length-5 : tie.Need-same-length-5
+same-length-5 c = search needs
+
+same-length-6 : tie.Need-same-length-6
+same-length-6 c = search needs
+
+returns-3 : tie.Need-returns-3
+unfolding farIn
+returns-3 c =
+    let fault = c .before .before .before .before .before in
+    let checked = fault .before .before in
+    let past = checked .before .before in
+    let got = past .before .before .before .before .before in
+    let start = start-of got in
+    fault-refused (start .pre .0) (start .pre .2) (start .pre .1) (got .get .ensures) (free (past .before .before .before))
+      (right past) (sym (found checked) ∙ fault .walked .given .1) (c .before .before .rejected-for3 .ensures)
+
+same-length-7 : tie.Need-same-length-7
+same-length-7 c = search needs
+
+returns-4 : tie.Need-returns-4
+unfolding farIn
+returns-4 c =
+    let kept = c .before .before .before in
+    let settled = kept .before .before in
+    let clean = settled .before .before .before in
+    let checked = clean .before .before in
+    let past = checked .before .before in
+    let got = past .before .before .before .before .before in
+    let start = start-of got in
+    set-moves (start .pre .0) (start .pre .2) (start .pre .1) (got .get .ensures) (free (past .before .before .before))
+      (right past) (sym (found checked) ∙ clean .walked2 .given .1) (kept .before .none .ensures) (settled .settled .ensures)
+      (c .accepted .ensures) (kept .keep .ensures)
+
+pub set-at-spec : {M : Type 1} → statement M
+set-at-spec =
+    tie.close
+    (tie.spec
+    get-requires
+    is-idle-requires
+    rejected-for-requires
+    same-length
+    same-length-2
+    returns
+    shared-slice-read-t22
+    far-right-requires
+    rejected-for-requires-2
+    same-length-3
+    same-length-4
+    returns-2
+    part-requires
+    set-elements-requires
+    enum-known-walked
+    rejected-for-requires-3
+    enum-known-walked-2
+    settled-requires
+    none-requires
+    keep-requires
+    accepted-requires
+    same-length-5
+    same-length-6
+    returns-3
+    same-length-7
+    returns-4)

@@ -1,0 +1,135 @@
+-- `walk` meets its contract: what stands at the place decides, or the walk goes on behind it with the marks of what was passed.
+-- The measure is what is left of the list.
+use Prim.Native.Nat.{ℕ, _-_, _<_}
+use mathlib.Core.Path.{sym, ap, subst, _∙_}
+use native.Mathlib.Omega.{arith}
+use lib.ListN.{length}
+use borrow.Fn.Kinds.{In}
+use borrow.Fn.PlainCycle.{Measures, is, falls, and}
+use Rattle.rules.specs.Elements.{items}
+use Rattle.rules.specs.Walks.{walkOf}
+use Rattle.rules.specs.declared.Walked.the-variants.{Fault as Failed}
+use Rattle.elements.specs.Asks.{LastMarked}
+use Rattle.elements.proofs.Standing.{stands-whole}
+use Rattle.elements.proofs.Judging.{walk-end, walk-short, walk-fault, walk-last, walk-on}
+use Rattle.elements.proofs.walks.walk.Reads as walk
+use Rattle.elements.proofs.walks.walk.Kinds as walk-kinds
+use Rattle.elements.proofs.walks.+walk.Lts-walk as walk-lts
+use Rattle.elements.proofs.heads.look.Reads as look-reads
+use Rattle.elements.proofs.marks.passed.Reads as passed-reads
+use Rattle.elements.proofs.walks.judged.Reads as judged-reads
+use Rattle.elements.proofs.walks.short_code.Reads as short-code-reads
+use Rattle.octets.proofs.part.Reads as part-reads
+use Rattle.elements.proofs.walks.+walk.{statement}
+use Rattle.elements.proofs.walks.+walk.Tie.{close}
+
+abbrev μ-walk : Measures 2 walk-kinds.ps ℕ
+μ-walk κs a = length (a .1 .1 .0 .now) - a .1 .1 .1 .0
+
+abbrev walk-at : ℕ → In 2 walk-kinds.ps
+walk-at t = and 2 walk-kinds.ps (is 2 walk-kinds.ps μ-walk t) walk.Pre
+
+abbrev walk-below : ℕ → In 2 walk-kinds.ps
+walk-below t = and 2 walk-kinds.ps (falls 2 walk-kinds.ps _<_ μ-walk t) walk.Pre
+
+pub +walk-spec : {M : Type 1} → statement M
++walk-spec = close μ-walk λ t. walk-lts.spec (
+  look-reads.Asked,
+  look-reads.Learnt,
+  short-code-reads.Asked,
+  short-code-reads.Learnt,
+  part-reads.Asked,
+  part-reads.Learnt,
+  judged-reads.Asked,
+  judged-reads.Learnt,
+  passed-reads.Asked,
+  passed-reads.Learnt,
+  walk-below t,
+  walk.Post,
+)
+    (walk-at t)
+    walk.Post
+    -- what `look` requires
+    (λ c κs. tt)
+    -- the first arm
+    (λ c. c .match .keys1)
+    -- the second arm
+    (λ c. c .match .keys2)
+    -- what `short_code` requires
+    (λ c κs. tt)
+    -- the third arm
+    (λ c. c .match .keys3)
+    -- what `part` requires
+    (λ c κs.
+      let place = c .before in
+      let looked = place .before .before in
+      let args = looked .before .before .before .args in
+      stands-whole (args .list .now) (args .at) _ _ _ (sym (place .head2 .given .1) ∙ looked .look .ensures) .3)
+    -- what `judged` requires
+    (λ c κs.
+      let start = c .before .before .before .before .before .before .before in
+      (start .pre .1 .1, start .pre .1 .2))
+    -- an element that fails
+    (λ c.
+      let judged = c .before in
+      let place = judged .before .before .before in
+      let looked = place .before .before in
+      let args = looked .before .before .before .args in
+      walk-fault (args .rule) (items (args .caps .now)) (args .list .now) (args .at) (args .marks) _ _ _
+        (sym (place .head2 .given .1) ∙ looked .look .ensures) _ (judged .before .part .ensures)
+        (judged .judged .result) (judged .judged .ensures) (c .if1 .taken))
+    -- the next place fits
+    (λ c.
+      let place = c .before .before .before .before in
+      let looked = place .before .before in
+      let args = looked .before .before .before .args in
+      omega (arith, stands-whole (args .list .now) (args .at) _ _ _ (sym (place .head2 .given .1) ∙ looked .look .ensures) .3))
+    -- the place of the value fits
+    (λ c.
+      let place = c .before .before .before .before in
+      let looked = place .before .before in
+      let start = looked .before .before .before in
+      let args = start .args in
+      omega (arith, start .pre .1 .0,
+        stands-whole (args .list .now) (args .at) _ _ _ (sym (place .head2 .given .1) ∙ looked .look .ensures) .3))
+    -- what `passed` requires
+    (λ c κs. tt)
+    -- the measure falls, and the marks are those of a walk
+    (λ c κs.
+      let judged = c .before .before in
+      let place = judged .before .before .before in
+      let looked = place .before .before in
+      let start = looked .before .before .before in
+      let args = start .args in
+      let here = sym (place .head2 .given .1) ∙ looked .look .ensures in
+      let there = stands-whole (args .list .now) (args .at) _ _ _ here in
+      let last = walk-last (args .rule) (items (args .caps .now)) (args .list .now) (args .at) (args .marks) _ _ _ here _
+            (judged .before .part .ensures) (judged .judged .result) (judged .judged .ensures) (c .before .if1 .left) in
+      ( omega (arith, start .pre .0, there .2, there .3),
+        (start .pre .1 .0, start .pre .1 .1, subst LastMarked (sym (c .passed .ensures)) last)))
+    -- nothing more
+    (λ c.
+      let looked = c .before .before in
+      let args = looked .before .before .before .args in
+      walk-end (args .rule) (items (args .caps .now)) (args .list .now) (args .at) (args .marks)
+        (sym (c .enum-told .given .1) ∙ looked .look .ensures))
+    -- an element cut short
+    (λ c.
+      let place = c .before .before in
+      let looked = place .before .before in
+      let args = looked .before .before .before .args in
+      ap (Failed (place .head .given .0 .0)) (c .short-code .ensures)
+      ∙ walk-short (args .rule) (items (args .caps .now)) (args .list .now) (args .at) (args .marks) _
+          (sym (place .head .given .1) ∙ looked .look .ensures))
+    -- the rest decides
+    (λ c.
+      let judged = c .before .before .before in
+      let place = judged .before .before .before in
+      let looked = place .before .before in
+      let start = looked .before .before .before in
+      let args = start .args in
+      c .walk .ensures
+      ∙ ap (walkOf (args .rule) (items (args .caps .now)) (args .list .now) _) (c .before .passed .ensures)
+      ∙ walk-on (args .rule) (items (args .caps .now)) (args .list .now) (args .at) (args .marks) _ _ _
+          (sym (place .head2 .given .1) ∙ looked .look .ensures) _ (judged .before .part .ensures)
+          (judged .judged .result) (judged .judged .ensures) (c .before .before .if1 .left) (start .pre .1 .2))

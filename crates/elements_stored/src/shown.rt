@@ -1,0 +1,36 @@
+// What is shown of a list.
+use elements::heads::look;
+use rules::Head;
+
+ghost use mathlib.Core.Path.{_≡_};
+ghost use Prim.Native.Nat.{_+_, _≤_};
+ghost use lib.ListN.{length, drop};
+ghost use Rattle.rules.specs.Elements.{items};
+ghost use Rattle.rules.specs.Book.{written, upToCodec};
+ghost use Rattle.octets.specs.Patch.{patch};
+
+// Writes the elements of categories 1 to 7 of the list from `at` on into the area from `to` on; gives where they end.
+pub fn show(area: &mut [u8], to: usize, list: &[u8], at: usize) -> usize
+    requires { ⌜ to + length (drop at (now list)) ≤ length (now area) ⌝ }
+    ensures area { λ _. ⌜ now (area .exit)
+      ≡ patch to (written (upToCodec (items (drop at (now (list .entry)))))) (now (area .entry)) ⌝ }
+    ensures end { λ r. ⌜ r ≡ to + length (written (upToCodec (items (drop at (now (list .entry)))))) ⌝ }
+{
+    let head = look(list, at);
+    match head {
+        Head::End => to,
+        Head::Short { category: _ } => to,
+        Head::Whole {
+            category,
+            length,
+            first,
+        } => {
+            if category <= 7 {
+                octets::put(area, to, octets::part(list, at, length + 2));
+                show(area, to + length + 2, list, first + length)
+            } else {
+                show(area, to, list, first + length)
+            }
+        }
+    }
+}

@@ -1,0 +1,96 @@
+-- What a right room says of the gathering in it, and that what is stored there is right again: a room is the saved area of a
+-- connection without endpoints, so what is proved of saved areas holds of it.
+use borrow.Author.Tests.{leb-true, eqb-true, ne-eqb}
+use Prim.Native.Nat.{ℕ, _≤_}
+use native.Mathlib.Omega.{arith}
+use mathlib.Core.Path.{_≡_, refl, sym, ap, ap₂, _∙_}
+use mathlib.Core.List.{List, [], _++_, append-nil}
+use mathlib.Core.Bool.{true, _&&_}
+use mathlib.Core.Option.{Option, none, some}
+use lib.Dec.{leb, eqb}
+use lib.ListN.{length, take, drop, getD, length-drop, drop-of-length-le}
+use lib.Seq.{take-all, length-take-le}
+use Rattle.rules.specs.Octets.{each-of}
+use Rattle.rules.specs.Packets.{Gathering, longest, gatheringRight, gather}
+use Rattle.rules.specs.Endpoints.{Connection, legalGathering}
+use Rattle.rules.specs.Saved.{gatheringRoom, areaFor, pairIn, gatheringAt, gatheringIn, gatheringOctetsRight, storeGathering}
+use Rattle.rules.specs.Saved.{connectionIn, storeEnds, store}
+use Rattle.rules.proofs.Tests.{and-l, and-r}
+use Rattle.rules.proofs.SavedReads.{PayloadFits, Roomy, length-store, reads-stored, stored-octets-right}
+use Rattle.rules.proofs.RightMessages.{gather-right}
+use Rattle.packets_gather.specs.Rooms.{RoomRight}
+
+-- how many octets are gathered, as the two octets say
+abbrev pub gatheredIn : List ℕ → ℕ
+gatheredIn room = pairIn (getD room 6 0) (getD room 7 0)
+
+pub record Marked (room : List ℕ) : Type 0 where
+  pub mark : getD room 0 0 ≡ 1
+  pub fits : gatheredIn room ≤ 512
+
+pub marked : (room : List ℕ) → RoomRight room → (getD room 0 0 ≡ 0 → ⊥) → Marked room
+unfolding gatheringOctetsRight longest
+marked room right there =
+    let both : eqb (getD room 0 0) 1 && leb (gatheredIn room) 512 ≡ true =
+          rw (ne-eqb (getD room 0 0) 0 there) at (right .octets) in
+    record {
+      mark = eqb-true (getD room 0 0) 1 (and-l _ (leb (gatheredIn room) 512) both);
+      fits = leb-true (gatheredIn room) 512 (and-r (eqb (getD room 0 0) 1) _ both)
+    }
+
+pub gathering-there : (room : List ℕ) → (getD room 0 0 ≡ 0 → ⊥) → gatheringIn room ≡ some (gatheringAt room)
+unfolding gatheringIn
+gathering-there room there = rw (ne-eqb (getD room 0 0) 0 there)
+
+pub payload-length : (room : List ℕ) → length room ≡ gatheringRoom → gatheredIn room ≤ 512
+  → length (gatheringAt room .message .payload) ≡ gatheredIn room
+unfolding gatheringAt
+payload-length room long fits = length-take-le (gatheredIn room) (drop 8 room) (rw length-drop (omega arith))
+
+-- ---- What is stored is right
+
+payload-fits : (g : Option Gathering) → legalGathering g ≡ true → PayloadFits g
+unfolding legalGathering gatheringRight longest
+payload-fits none right = tt
+payload-fits (some g) right = leb-true (length (g .message .payload)) 512 (search (and-l, and-r) depth 7)
+
+-- a connection without endpoints
+alone : Option Gathering → Connection
+alone g = record { ends = []; gathering = g }
+
+module _ (g : Option Gathering) (room : List ℕ) (long : length room ≡ gatheringRoom) (right : legalGathering g ≡ true) where
+  roomy : Roomy (alone g) room
+  unfolding alone areaFor each-of
+  roomy = record { area = omega arith; configs = refl; payload = payload-fits g right }
+
+  stored : store (alone g) room ≡ storeGathering g room
+  unfolding alone store storeEnds
+  stored =
+      ap₂ (λ (x y : List ℕ). storeGathering g x ++ y) (take-all gatheringRoom room (omega arith))
+        (drop-of-length-le room {i = gatheringRoom} (omega arith))
+      ∙ append-nil (storeGathering g room)
+
+  stored-length : length (storeGathering g room) ≡ gatheringRoom
+  stored-length = ap length (sym stored) ∙ length-store (alone g) room roomy ∙ long
+
+  stored-whole : take gatheringRoom (store (alone g) room) ≡ storeGathering g room
+  stored-whole = ap (take gatheringRoom) stored ∙ take-all gatheringRoom (storeGathering g room) (omega (arith, stored-length))
+
+  pub stored-read : gatheringIn (storeGathering g room) ≡ g
+  unfolding alone connectionIn
+  stored-read =
+      ap gatheringIn (sym stored-whole) ∙ ap (λ (c : Connection). c .gathering) (reads-stored (alone g) room roomy)
+
+  pub stored-right : RoomRight (storeGathering g room)
+  stored-right =
+      record {
+        long = stored-length;
+        octets = rw stored-whole at (stored-octets-right (alone g) room roomy .0);
+        limits = rw stored-read right
+      }
+
+pub room-kept : (size : ℕ) (room p : List ℕ) → RoomRight room
+  → RoomRight (storeGathering (gather size (gatheringIn room) p .gathering) room)
+room-kept size room p right =
+    let step = gather-right size (gatheringIn room) p (right .limits) in
+    stored-right (gather size (gatheringIn room) p .gathering) room (right .long) (step .gathering)

@@ -1,0 +1,191 @@
+// One gathering step for every packet, over the room that the gathering is saved in. The octets of a part go straight into that
+// room, once; a message that is whole in one packet is not copied at all.
+use rules::Next;
+ghost use mathlib.Core.Path.{_≡_};
+ghost use mathlib.Core.List.{_++_};
+ghost use mathlib.Core.Option.{Option, some};
+ghost use Prim.Native.Nat.{_+_, _≤_, _<_};
+ghost use lib.ListN.{length, drop, getD};
+ghost use Rattle.rules.specs.Octets.{front};
+ghost use Rattle.rules.specs.Packets.{Gathering, aSingle, aStart, labelIn, typeIn, readAs};
+ghost use Rattle.rules.specs.Packets.{gather as gatherOf};
+ghost use Rattle.rules.specs.Saved.{gatheringRoom, pairIn, gatheringAt, gatheringIn, storeGathering};
+ghost use Rattle.rules.specs.Wires.{nextFurther, nextBy, nextOf};
+ghost use Rattle.packets_gather.specs.Rooms.{RoomRight, begun, grown, withPart};
+
+// How many octets are gathered in the room.
+fn gathered(room: &[u8]) -> usize
+    requires { ⌜ 8 ≤ length (now room) ⌝ }
+    ensures { λ r. ⌜ r ≡ pairIn (getD (now (room .entry)) 6 0) (getD (now (room .entry)) 7 0) ⌝ }
+{
+    room[6] as usize * 256 + room[7] as usize
+}
+
+// What a packet that is a message by itself leads to, whatever is gathered.
+fn single(packet: &[u8]) -> Next
+    requires { ⌜ 1 ≤ length (now packet) ⌝ }
+    ensures { λ r. ⌜ ((g : Option Gathering)
+        → r ≡ nextBy g (readAs aSingle (getD (now (packet .entry)) 0 0) (drop 1 (now (packet .entry))))) ⌝ }
+{
+    // a header of 2 octets, and at most 512 behind it
+    if packet.len() < 2 {
+        return Next::Ended;
+    }
+    if 514 < packet.len() {
+        return Next::Ended;
+    }
+    Next::Single {
+        label: packet[0] / 16,
+        kind: packet[0] % 4,
+        signal: packet[1] % 64,
+    }
+}
+
+// What the first packet of several leads to, whatever is gathered.
+fn start(packet: &[u8]) -> Next
+    requires { ⌜ 1 ≤ length (now packet) ⌝ }
+    ensures { λ r. ⌜ ((g : Option Gathering)
+        → r ≡ nextBy g (readAs aStart (getD (now (packet .entry)) 0 0) (drop 1 (now (packet .entry))))) ⌝ }
+{
+    // a header of 3 octets with the packet count in the middle, and at most 512 behind it
+    if packet.len() < 3 {
+        return Next::Ended;
+    }
+    if packet[1] < 2 {
+        return Next::Ended;
+    }
+    if 515 < packet.len() {
+        return Next::Ended;
+    }
+    Next::Begun
+}
+
+// What a further packet leads to, a continue or the last.
+fn further(room: &[u8], packet: &[u8], last: bool) -> Next
+    requires { ⌜ RoomRight (now room) ⌝ }
+    requires { ⌜ 1 ≤ length (now packet) ⌝ }
+    ensures { λ r. ⌜ r ≡ nextFurther (gatheringIn (now (room .entry))) last (labelIn (getD (now (packet .entry)) 0 0))
+        (typeIn (getD (now (packet .entry)) 0 0)) (drop 1 (now (packet .entry))) ⌝ }
+{
+    if room[0] == 0 {
+        return Next::Ended;
+    }
+    if packet[0] / 16 != room[1] {
+        return Next::Ended;
+    }
+    if packet[0] % 4 != room[2] {
+        return Next::Ended;
+    }
+    if 512 < gathered(room) + (packet.len() - 1) {
+        return Next::Ended;
+    }
+    let parts = room[5] as usize + 1;
+    let count = room[4] as usize;
+    if last {
+        if parts == count {
+            return Next::Complete {
+                label: room[1],
+                kind: room[2],
+                signal: room[3],
+            };
+        }
+        return Next::Ended;
+    }
+    if parts < count {
+        return Next::Grown;
+    }
+    Next::Ended
+}
+
+// What a packet leads to. Nothing is written.
+pub fn next(room: &[u8], size: usize, packet: &[u8]) -> Next
+    requires { ⌜ RoomRight (now room) ⌝ }
+    ensures { λ r. ⌜ r ≡ nextOf size (gatheringIn (now (room .entry))) (now (packet .entry)) ⌝ }
+{
+    if packet.len() == 0 {
+        return Next::Ended;
+    }
+    if size < packet.len() {
+        return Next::Ended;
+    }
+    match packet[0] / 4 % 4 {
+        0 => single(packet),
+        1 => start(packet),
+        2 => further(room, packet, false),
+        _ => further(room, packet, true),
+    }
+}
+
+// Writes a part behind what is gathered, and how many parts and octets there are then.
+fn add_part(room: &mut [u8], parts: u8, before: usize, part: &[u8])
+    requires { ⌜ (length (now room) ≡ gatheringRoom) × (before + length (now part) ≤ 512) ⌝ }
+    ensures { λ _. ⌜ now (room .exit) ≡ withPart parts before (now (part .entry)) (now (room .entry)) ⌝ }
+{
+    let length = before + part.len();
+    room[5] = parts;
+    room[6] = (length / 256) as u8;
+    room[7] = (length % 256) as u8;
+    octets::put(room, 8 + before, part);
+}
+
+// A gathering begins with the first of its packets.
+fn begin(room: &mut [u8], packet: &[u8])
+    requires { ⌜ length (now room) ≡ gatheringRoom ⌝ }
+    requires { ⌜ (3 ≤ length (now packet)) × (length (drop 3 (now packet)) ≤ 512) ⌝ }
+    ensures { λ _. ⌜ now (room .exit) ≡ storeGathering (some (begun (now (packet .entry)))) (now (room .entry)) ⌝ }
+{
+    room[0] = 1;
+    room[1] = packet[0] / 16;
+    room[2] = packet[0] % 4;
+    room[3] = packet[2] % 64;
+    room[4] = packet[1];
+    add_part(room, 1, 0, &packet[3..]);
+}
+
+// A gathering goes on with one more packet.
+fn grow(room: &mut [u8], packet: &[u8])
+    requires { ⌜ (length (now room) ≡ gatheringRoom) × (getD (now room) 0 0 ≡ 1) × (getD (now room) 5 0 < 255) ⌝ }
+    requires { ⌜ 1 ≤ length (now packet) ⌝ }
+    requires { ⌜ pairIn (getD (now room) 6 0) (getD (now room) 7 0) + length (drop 1 (now packet)) ≤ 512 ⌝ }
+    ensures { λ _. ⌜ now (room .exit)
+        ≡ storeGathering (some (grown (gatheringAt (now (room .entry))) (now (packet .entry)))) (now (room .entry)) ⌝ }
+{
+    let parts = room[5] + 1;
+    let before = gathered(room);
+    add_part(room, parts, before, &packet[1..]);
+}
+
+// Takes a packet: the room holds the gathering from then on, and the answer says what the packet led to.
+pub fn gather(room: &mut [u8], size: usize, packet: &[u8]) -> Next
+    requires { ⌜ RoomRight (now room) ⌝ }
+    ensures next { λ r. ⌜ r ≡ nextOf size (gatheringIn (now (room .entry))) (now (packet .entry)) ⌝ }
+    ensures room { λ _. ⌜ now (room .exit)
+        ≡ storeGathering (gatherOf size (gatheringIn (now (room .entry))) (now (packet .entry)) .gathering)
+        (now (room .entry)) ⌝ }
+{
+    let then = next(room, size, packet);
+    match then {
+        Next::Begun => begin(room, packet),
+        Next::Grown => grow(room, packet),
+        // without the mark no other octet of the room counts
+        _ => room[0] = 0,
+    }
+    then
+}
+
+// Puts together the message of which `packet` is the last part: what the room holds of it, and then the packet's part.
+pub fn assemble(message: &mut [u8], room: &[u8], packet: &[u8]) -> usize
+    requires { ⌜ length (now room) ≡ gatheringRoom ⌝ }
+    requires { ⌜ 1 ≤ length (now packet) ⌝ }
+    requires { ⌜ pairIn (getD (now room) 6 0) (getD (now room) 7 0) ≤ 512 ⌝ }
+    requires { ⌜ length (gatheringAt (now room) .message .payload) + length (drop 1 (now packet)) ≤ length (now message) ⌝ }
+    ensures written { λ _. ⌜ now (message .exit)
+        ≡ front (gatheringAt (now (room .entry)) .message .payload ++ drop 1 (now (packet .entry))) (now (message .entry)) ⌝ }
+    ensures size { λ r. ⌜ r ≡ length (gatheringAt (now (room .entry)) .message .payload ++ drop 1 (now (packet .entry))) ⌝ }
+{
+    let before = gathered(room);
+    let part = &packet[1..];
+    octets::put(message, 0, octets::part(room, 8, before));
+    octets::put(message, before, part);
+    before + part.len()
+}

@@ -1,0 +1,209 @@
+// Why a packet is not answered, by the packet and by what was being gathered before and is being gathered after it.
+use crate::notes::sentence;
+use replay_answers::octs::pair;
+use replay_answers::octs::wide;
+use replay_answers::says::say;
+use replay_answers::says::say_around;
+use replay_answers::state::State;
+
+// Label, message type, packet type: the parts of a packet's first octet.
+fn label_of(octet: u8) -> u8 {
+    octet / 16
+}
+
+fn kind_of(octet: u8) -> u8 {
+    octet % 4
+}
+
+pub fn type_of(octet: u8) -> u8 {
+    octet / 4 % 4
+}
+
+// The key for a message that is whole and silent: an Abort, or no command.
+fn whole_key(kind: u8, length: usize) -> u8 {
+    if kind != 0 {
+        return b'n';
+    }
+    if length == 1 {
+        return b'u';
+    }
+    b'a'
+}
+
+// The key for a packet that begins a message.
+fn single_key(packet: &[u8]) -> u8 {
+    if packet.len() < 2 {
+        return b's';
+    }
+    if 514 < packet.len() {
+        return b'p';
+    }
+    whole_key(kind_of(packet[0]), packet.len() - 2)
+}
+
+fn start_key(packet: &[u8]) -> u8 {
+    if packet.len() < 3 {
+        return b't';
+    }
+    if packet[1] < 2 {
+        return b'c';
+    }
+    b'p'
+}
+
+// The key for a packet that goes on with a message, or ends it; `gathering` is what was being gathered.
+fn further_key(packet: &[u8], gathering: &[u8]) -> u8 {
+    if packet.len() == 0 {
+        return b'e';
+    }
+    if gathering.len() < 8 {
+        return b'o';
+    }
+    if gathering[0] == 0 {
+        return b'o';
+    }
+    if label_of(packet[0]) != gathering[1] {
+        return b'l';
+    }
+    if kind_of(packet[0]) != gathering[2] {
+        return b'k';
+    }
+    let owed = wide(gathering[4]);
+    let come = wide(gathering[5]);
+    let length = pair(gathering[6], gathering[7]);
+    if type_of(packet[0]) == 2 {
+        if owed <= come + 1 {
+            return b'E';
+        }
+        return b'p';
+    }
+    if come + 1 < owed {
+        return b'C';
+    }
+    if 512 < packet.len() {
+        return b'p';
+    }
+    if 513 < length + packet.len() {
+        return b'p';
+    }
+    whole_key(kind_of(packet[0]), length + packet.len() - 1)
+}
+
+fn key(size: usize, packet: &[u8], gathering: &[u8]) -> u8 {
+    if packet.len() == 0 {
+        return b'e';
+    }
+    if size < packet.len() {
+        return b'z';
+    }
+    let kind = type_of(packet[0]);
+    match kind {
+        0 => single_key(packet),
+        1 => start_key(packet),
+        _ => further_key(packet, gathering),
+    }
+}
+
+fn say_why(state: &mut State, out: &mut [u8], key: u8) {
+    sentence(
+        state,
+        out,
+        b"aan Abort whose payload is not 1 octet gets no answer\n\
+        uan Abort for a SEID that is not in the book gets no answer\n\
+        na message that is no command gets no answer\n\
+        ean empty packet gets no answer\n\
+        zthe packet is longer than the packet size\n\
+        sa single packet has 2 octets or more\n\
+        ta start packet has 3 octets or more\n\
+        ca start packet announces 2 packets or more\n\
+        pthe payload would be above 512 octets\n\
+        oa continue or end packet, and no message is being gathered\n\
+        lthe packet has another label than the message that is being gathered\n\
+        kthe packet has another message type than the message that is being gathered\n\
+        Ea continue packet, and the last one is owed, an end\n\
+        Can end packet, and more than one is still owed\n",
+        key,
+    );
+}
+
+// Whether the packet was the last of the message that was being gathered: then the key is that of a whole message.
+fn completes(packet: &[u8], key: u8) -> bool {
+    if packet.len() == 0 {
+        return false;
+    }
+    if type_of(packet[0]) != 3 {
+        return false;
+    }
+    if key == b'a' {
+        return true;
+    }
+    if key == b'u' {
+        return true;
+    }
+    key == b'n'
+}
+
+// A message of several packets of which not all have come.
+fn gathered(state: &mut State, out: &mut [u8], label: u8, count: u8, parts: u8, length: usize) {
+    say_around(state, out, b"# part ", wide(parts), b" of ");
+    say_around(state, out, b"", wide(count), b" of the message with label ");
+    say_around(state, out, b"", wide(label), b"; ");
+    say_around(state, out, b"", length, b" octets of payload so far\n");
+}
+
+// What is being gathered.
+pub fn gathering(state: &mut State, out: &mut [u8], saved: &[u8]) {
+    if saved.len() < 8 {
+        return;
+    }
+    if saved[0] == 0 {
+        say(state, out, b"# no message is being gathered\n");
+        return;
+    }
+    gathered(state, out, saved[1], saved[4], saved[5], pair(saved[6], saved[7]));
+}
+
+// Whether something was being gathered.
+fn gathers(saved: &[u8]) -> bool {
+    if saved.len() < 8 {
+        return false;
+    }
+    saved[0] != 0
+}
+
+fn dropped(state: &mut State, out: &mut [u8], before: &[u8]) {
+    if gathers(before) {
+        say(state, out, b"# the message that was being gathered is dropped\n");
+    }
+}
+
+// A packet that ended the gathering, or found none.
+fn ended(state: &mut State, out: &mut [u8], size: usize, packet: &[u8], before: &[u8]) {
+    let why = key(size, packet, before);
+    say_why(state, out, why);
+    if completes(packet, why) {
+        return;
+    }
+    dropped(state, out, before);
+}
+
+fn is_start(packet: &[u8]) -> bool {
+    if packet.len() == 0 {
+        return false;
+    }
+    type_of(packet[0]) == 1
+}
+
+// A packet that was not answered.
+pub fn silent(state: &mut State, out: &mut [u8], size: usize, packet: &[u8], before: &[u8], after: &[u8]) {
+    if !gathers(after) {
+        ended(state, out, size, packet, before);
+        return;
+    }
+    if is_start(packet) {
+        dropped(state, out, before);
+        gathering(state, out, after);
+        return;
+    }
+    gathering(state, out, after);
+}

@@ -1,0 +1,59 @@
+-- Channel down for a SEID, by the place that the book has it at.
+use Prim.Native.Nat.{ℕ, _+_, _*_, _≤_, _<_}
+use mathlib.Core.Path.{_≡_, refl, sym, ap, _∙_}
+use mathlib.Core.List.{List}
+use mathlib.Core.Bool.{Bool, true, false}
+use lib.ListN.{length, set}
+use Rattle.rules.specs.Book.{bookNumber, bookOf}
+use Rattle.rules.specs.Walks.{placeIn, foundBy}
+use Rattle.rules.specs.Endpoints.{Endpoint, endAt, isUp, forgotten, idle}
+use Rattle.rules.specs.Saved.{recordRoom, endsIn, storeEnds}
+use Rattle.rules.specs.declared.OurSeid.{OurSeid}
+use Rattle.rules.specs.declared.Place.the-variants.{Unknown, Known}
+use Rattle.octets.specs.Patch.{patch}
+use Rattle.book.proofs.Found.{found-as, placed}
+use Rattle.saved.specs.Records.{loaded, endpointOf, headOctets, recordAt}
+use Rattle.saved.specs.Moved.{forgottenHead}
+use Rattle.saved.specs.Held.{Held}
+use Rattle.saved.specs.declared.records.Endpoint.{Endpoint as Head}
+use Rattle.saved.proofs.OneStore.{loaded-one, head-emptied}
+use Rattle.saved_events.specs.Events.{Turned, downedAt, downed}
+use Rattle.saved_events.proofs.Awaits.{channel-shown, has-room}
+
+pub down-unknown : (s : OurSeid) (b l : List ℕ) → placeIn s b ≡ Unknown
+  → _≡_ {A = Turned} (record { number = 10; records = l }) (downed s (bookOf b) l)
+unfolding downed downedAt foundBy
+down-unknown s b l e = rw (found-as s b Unknown e)
+
+module _ (s : OurSeid) (b l : List ℕ) (i kind from size : ℕ) (right : bookNumber b ≡ 0) (held : Held (length (bookOf b)) l)
+  (there : placeIn s b ≡ Known i kind from size) where
+  inside : i < length (bookOf b)
+  inside = placed s b i kind from size right there .counted
+
+  pub down-room : (i + 1) * recordRoom ≤ length l
+  down-room = has-room (length (bookOf b)) i l l inside held refl
+
+  channel : (h : Head) → h ≡ loaded (recordAt i l) → isUp (endAt (endsIn (length (bookOf b)) l) i .channel) ≡ isUp (h .channel)
+  channel h got =
+      ap isUp (channel-shown (length (bookOf b)) i l inside) ∙ sym (ap (λ (x : Head). isUp (x .channel)) got)
+
+  pub down-done : (m : List ℕ) (h h′ : Head) (t : Bool) → h ≡ loaded (recordAt i l) → t ≡ isUp (h .channel) → t ≡ true
+    → h′ ≡ forgottenHead h → m ≡ patch (i * recordRoom) (headOctets h′) l
+    → _≡_ {A = Turned} (record { number = 0; records = m }) (downed s (bookOf b) l)
+  unfolding downed downedAt foundBy forgotten idle endpointOf
+  down-done m h h′ t got asked up moved stored =
+      let n = length (bookOf b) in
+      let e = loaded (recordAt i l) in
+      let written : m ≡ storeEnds (set (endsIn n l) i (forgotten (endAt (endsIn n l) i))) l =
+            stored
+            ∙ ap (λ (x : Head). patch (i * recordRoom) (headOctets x) l) (moved ∙ ap forgottenHead got)
+            ∙ head-emptied n i l inside held (forgottenHead e) refl
+            ∙ ap (λ (x : Endpoint). storeEnds (set (endsIn n l) i (forgotten x)) l) (sym (loaded-one n i l inside)) in
+      rw (found-as s b (Known i kind from size) there, channel h got ∙ sym asked ∙ up)
+        (ap (λ (x : List ℕ). record { number = 0; records = x }) written)
+
+  pub down-none : (h : Head) (t : Bool) → h ≡ loaded (recordAt i l) → t ≡ isUp (h .channel) → t ≡ false
+    → _≡_ {A = Turned} (record { number = 10; records = l }) (downed s (bookOf b) l)
+  unfolding downed downedAt foundBy
+  down-none h t got asked left =
+      rw (found-as s b (Known i kind from size) there, channel h got ∙ sym asked ∙ left)

@@ -1,0 +1,66 @@
+-- Link lost over the records: after i turns the first i are idle and the rest are as they were, by induction on the records before.
+use Prim.Native.Nat.{ℕ, zero, suc, _+_, _*_, _≤_}
+use mathlib.Core.Path.{_≡_, refl, sym, ap, ap₂, _∙_}
+use mathlib.Core.List.{List, _++_}
+use native.Mathlib.Numerals.{add-one}
+use native.Mathlib.Omega.{arith}
+use lib.Dec.{lit≤}
+use lib.ListN.{length, take, drop, length-drop}
+use lib.Seq.{drop-append-add, length-take-le}
+use Rattle.rules.specs.Octets.{front}
+use Rattle.rules.specs.Endpoints.{forgotten, idle}
+use Rattle.rules.specs.Saved.{recordRoom, endpointIn, headOf, storeEnd, endsIn, storeEnds}
+use Rattle.rules.proofs.SavedReads.{end-length}
+use Rattle.octets.specs.Patch.{patch}
+use Rattle.octets.proofs.Patches.{patch-past, lent-front}
+use Rattle.saved.specs.Records.{loaded, headOctets, recordAt}
+use Rattle.saved.specs.Moved.{forgottenHead}
+use Rattle.saved.specs.declared.records.Endpoint.{Endpoint as Head}
+use Rattle.saved_events.specs.Events.{allIdle}
+
+-- the head of an idle record, as the definitions and as the code have it
+idle-record : (r : List ℕ) → storeEnd (forgotten (endpointIn r)) r ≡ front (headOctets (forgottenHead (loaded r))) r
+unfolding storeEnd forgotten idle endpointIn headOf headOctets loaded
+idle-record r = refl
+
+idle-long : (r : List ℕ) → length r ≡ recordRoom → length (storeEnd (forgotten (endpointIn r)) r) ≡ recordRoom
+unfolding forgotten idle
+idle-long r e = end-length (forgotten (endpointIn r)) r (lit≤ tt) e
+
+first-long : (i : ℕ) (l : List ℕ) → suc i * recordRoom ≤ length l → length (take recordRoom l) ≡ recordRoom
+first-long i l h = length-take-le recordRoom l (omega arith)
+
+head-fits : (h : Head) → length (headOctets h) ≤ recordRoom
+unfolding headOctets
+head-fits h = lit≤ tt
+
+pub one-idle : (i : ℕ) (l : List ℕ) → suc i * recordRoom ≤ length l
+  → patch (i * recordRoom) (headOctets (forgottenHead (loaded (recordAt i (allIdle i l))))) (allIdle i l) ≡ allIdle (suc i) l
+unfolding allIdle endsIn storeEnds
+one-idle zero l h =
+    sym (lent-front 0 recordRoom (headOctets (forgottenHead (loaded (take recordRoom l)))) l (head-fits (forgottenHead (loaded (take recordRoom l)))))
+    ∙ ap (λ (x : List ℕ). x ++ drop recordRoom l) (sym (idle-record (take recordRoom l)))
+one-idle (suc i) l h =
+    let x = storeEnd (forgotten (endpointIn (take recordRoom l))) (take recordRoom l) in
+    let y = allIdle i (drop recordRoom l) in
+    let long : length x ≡ recordRoom = idle-long (take recordRoom l) (first-long (suc i) l h) in
+    let at : suc i * recordRoom ≡ length x + i * recordRoom = omega arith in
+    let behind : recordAt (suc i) (x ++ y) ≡ recordAt i y =
+          ap (take recordRoom) (ap (λ (k : ℕ). drop k (x ++ y)) at ∙ drop-append-add x y (i * recordRoom)) in
+    ap₂ (λ (k : ℕ) (r : List ℕ). patch k (headOctets (forgottenHead (loaded r))) (x ++ y)) at behind
+    ∙ patch-past x y (headOctets (forgottenHead (loaded (recordAt i y)))) (i * recordRoom)
+    ∙ ap (λ (z : List ℕ). x ++ z) (one-idle i (drop recordRoom l) (simp length-drop (omega arith)))
+
+-- a turn, from what the calls answer
+pub idle-turn : (i : ℕ) (l l₀ m : List ℕ) (h h′ : Head) → (i + 1) * recordRoom ≤ length l₀ → l ≡ allIdle i l₀
+  → h ≡ loaded (recordAt i l) → h′ ≡ forgottenHead h → m ≡ patch (i * recordRoom) (headOctets h′) l → m ≡ allIdle (i + 1) l₀
+idle-turn i l l₀ m h h′ room so-far got moved stored =
+    let more : suc i * recordRoom ≤ length l₀ = omega arith in
+    let all : h′ ≡ forgottenHead (loaded (recordAt i (allIdle i l₀))) =
+          moved ∙ ap forgottenHead (got ∙ ap (λ (x : List ℕ). loaded (recordAt i x)) so-far) in
+    stored ∙ ap₂ (λ (x : Head) (y : List ℕ). patch (i * recordRoom) (headOctets x) y) all so-far ∙ one-idle i l₀ more
+    ∙ ap (λ (k : ℕ). allIdle k l₀) (sym (add-one i))
+
+pub none-idle : (l : List ℕ) → l ≡ allIdle 0 l
+unfolding allIdle endsIn storeEnds
+none-idle l = refl
