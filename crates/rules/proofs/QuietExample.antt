@@ -10,7 +10,7 @@ use Rattle.rules.proofs.SavedStaysRight.{trace-book-right}
 use Rattle.rules.proofs.Quiet.{Alike, quiet}
 use Rattle.rules.specs.Book.{bookNumber, bookOf}
 use Rattle.rules.specs.Endpoints.{endAt}
-use Rattle.rules.specs.Saved.{connectionIn}
+use Rattle.rules.specs.Saved.{areaFor, connectionIn}
 use Rattle.rules.specs.Host.{freshCall, eventCall, delayCall}
 use Rattle.rules.specs.Sessions.{Call, packet, event, delay, after}
 use Rattle.rules.specs.Alike.{alikeEntry, alike, usesDelay, usesIn, afterEvent, restrained, Begins, begun, lost}
@@ -42,7 +42,7 @@ headsetCalls =
 
 -- an area that was something else before, and one in which a delay of 1,500 tenths is reported
 abbrev pub usedArea : List ℕ
-usedArea = replicate 680 0xDD
+usedArea = replicate (areaFor 2) 0xDD
 
 unfoldable pub delayedArea : List ℕ
 delayedArea =

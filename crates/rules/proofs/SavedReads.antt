@@ -14,11 +14,11 @@ use lib.Seq.{length-front as length-joined}
 use lib.Dec.{leb, ltb, eqb, lit<, lit≤}
 use lib.Arith.{digits-div, digits-mod}
 use borrow.Author.Tests.{leb-true, le-leb, ltb-true, lt-ltb, eqb-true}
-use Rattle.rules.specs.Octets.{octetsIn, if_then_else_, each-of, front}
+use Rattle.rules.specs.Octets.{octetsIn, if_then_else_, sameOctets, each-of, front}
 use Rattle.rules.specs.Book.{bookOf}
 use Rattle.rules.specs.Packets.{Gathering, longest}
 use Rattle.rules.specs.Endpoints.{Endpoint, Ends, Connection, withEnds, freshConnection}
-use Rattle.rules.specs.Saved.{gatheringRoom, recordRoom, areaFor, pairIn, stateIn, stateOctet, channelIn, channelOctet}
+use Rattle.rules.specs.Saved.{countRoom, linkRoom, recordsPlace, recordRoom, headRoom, configRoom, areaFor, countIn, linkOf, recordsOf, unused, pairIn, stateIn, stateOctet, channelIn, channelOctet}
 use Rattle.rules.specs.Saved.{delayIn, delayMark, delayTenths, endpointIn, recordRight, headOf, storeEnd}
 use Rattle.rules.specs.Saved.{endsIn, recordsRight, storeEnds, gatheringAt, gatheringIn, gatheringOctetsRight}
 use Rattle.rules.specs.Saved.{gatheringHead, storeGathering, connectionIn, store}
@@ -30,7 +30,7 @@ use Rattle.rules.specs.declared.Channel.{Channel}
 use Rattle.rules.specs.declared.Channel.the-variants.{Absent, Awaited, Up}
 use Rattle.rules.specs.declared.Delay.{Delay}
 use Rattle.rules.specs.declared.Delay.the-variants.{Unreported, Reported}
-use Rattle.rules.proofs.Tests.{and-l, and-r, and-both}
+use Rattle.rules.proofs.Tests.{and-l, and-r, and-both, same-octets}
 
 -- ---- Room: what an area must have, and a connection keep to, for the connection to be stored there
 
@@ -104,8 +104,8 @@ pub end-length : (e : Endpoint) (r : List ℕ) → length (e .config) ≤ 64 →
 unfolding storeEnd headOf
 end-length e r short long = front-length (headOf e ++ e .config) r (omega arith) ∙ long
 
-pub gathering-length : (g : Option Gathering) (r : List ℕ) → PayloadFits g → length r ≡ gatheringRoom
-    → length (storeGathering g r) ≡ gatheringRoom
+pub gathering-length : (g : Option Gathering) (r : List ℕ) → PayloadFits g → length r ≡ linkRoom
+    → length (storeGathering g r) ≡ linkRoom
 unfolding storeGathering gatheringHead
 gathering-length none r fits long = front-length (0 ∷ []) r (omega arith) ∙ long
 gathering-length (some g) r fits long = front-length (gatheringHead g ++ g .message .payload) r (omega arith) ∙ long
@@ -129,8 +129,9 @@ delay-written Unreported = refl
 delay-written (Reported d) = refl
 
 pub end-right : (e : Endpoint) (r : List ℕ) → leb (length (e .config)) 64 ≡ true → recordRight (storeEnd e r) ≡ true
-unfolding recordRight storeEnd headOf front
-end-right e r short = simp (state-written (e .state), channel-written (e .channel), delay-written (e .delay), short)
+unfolding recordRight storeEnd headOf front sameOctets
+end-right e r short =
+    simp (state-written (e .state), channel-written (e .channel), delay-written (e .delay), short) refl
 
 pub gathering-right : (g : Option Gathering) (r : List ℕ) → PayloadFits g → gatheringOctetsRight (storeGathering g r) ≡ true
 unfolding gatheringOctetsRight storeGathering gatheringHead front longest
@@ -215,65 +216,70 @@ ends-behind (e ∷ ends) l fits =
 -- ---- The connection
 
 -- octets for the gathering, and for the records behind it
-pub gathering-room : (n : ℕ) (l : List ℕ) → areaFor n ≤ length l → length (take gatheringRoom l) ≡ gatheringRoom
-unfolding areaFor
-gathering-room n l area = length-take-le gatheringRoom l (omega arith)
+pub gathering-room : (n : ℕ) (l : List ℕ) → areaFor n ≤ length l → length (linkOf l) ≡ linkRoom
+unfolding areaFor linkOf
+gathering-room n l area = length-take-le linkRoom (drop countRoom l) (rw length-drop (omega arith))
 
-pub records-room : (n : ℕ) (l : List ℕ) → areaFor n ≤ length l → n * recordRoom ≤ length (drop gatheringRoom l)
-unfolding areaFor
+pub records-room : (n : ℕ) (l : List ℕ) → areaFor n ≤ length l → n * recordRoom ≤ length (recordsOf l)
+unfolding areaFor recordsOf
 records-room n l area = rw length-drop (omega arith)
 
 module _ (c : Connection) (l : List ℕ) (roomy : Roomy c l) where
-  records-fit : Fits (c .ends) (drop gatheringRoom l)
+  records-fit : Fits (c .ends) (recordsOf l)
   records-fit = record { short = roomy .configs; room = records-room (length (c .ends)) l (roomy .area) }
 
-  gathering-stored-length : length (storeGathering (c .gathering) (take gatheringRoom l)) ≡ gatheringRoom
+  gathering-stored-length : length (storeGathering (c .gathering) (linkOf l)) ≡ linkRoom
   gathering-stored-length =
-      gathering-length (c .gathering) (take gatheringRoom l) (roomy .payload)
+      gathering-length (c .gathering) (linkOf l) (roomy .payload)
         (gathering-room (length (c .ends)) l (roomy .area))
 
-  gathering-stored : take gatheringRoom (store c l) ≡ storeGathering (c .gathering) (take gatheringRoom l)
-  unfolding store
+  gathering-stored : linkOf (store c l) ≡ storeGathering (c .gathering) (linkOf l)
+  unfolding store linkOf
   gathering-stored =
-      take-at (storeGathering (c .gathering) (take gatheringRoom l)) (storeEnds (c .ends) (drop gatheringRoom l)) gatheringRoom
+      take-at (storeGathering (c .gathering) (linkOf l)) (storeEnds (c .ends) (recordsOf l)) linkRoom
         gathering-stored-length
 
-  ends-stored : drop gatheringRoom (store c l) ≡ storeEnds (c .ends) (drop gatheringRoom l)
-  unfolding store
+  ends-stored : recordsOf (store c l) ≡ storeEnds (c .ends) (recordsOf l)
+  unfolding store recordsOf
   ends-stored =
-      drop-at (storeGathering (c .gathering) (take gatheringRoom l)) (storeEnds (c .ends) (drop gatheringRoom l)) gatheringRoom
+      drop-at (storeGathering (c .gathering) (linkOf l)) (storeEnds (c .ends) (recordsOf l)) linkRoom
         gathering-stored-length
 
   pub length-store : length (store c l) ≡ length l
-  unfolding store areaFor
+  unfolding store areaFor recordsOf
   length-store =
-      simp (length-append, gathering-stored-length, ends-length (c .ends) (drop gatheringRoom l) records-fit, length-drop)
-        (omega arith)
+      simp (length-append, gathering-stored-length, ends-length (c .ends) (recordsOf l) records-fit, length-drop)
+        (omega (arith, roomy .area))
 
   -- what was stored is what is read
   pub reads-stored : connectionIn (length (c .ends)) (store c l) ≡ c
   unfolding connectionIn
   reads-stored = λ i.
       record {
-        ends = (ap (endsIn (length (c .ends))) ends-stored ∙ ends-back (c .ends) (drop gatheringRoom l) records-fit) i;
-        gathering = (ap gatheringIn gathering-stored ∙ gathering-back (c .gathering) (take gatheringRoom l)) i
+        ends = (ap (endsIn (length (c .ends))) ends-stored ∙ ends-back (c .ends) (recordsOf l) records-fit) i;
+        gathering = (ap gatheringIn gathering-stored ∙ gathering-back (c .gathering) (linkOf l)) i
       }
 
   -- and what is stored is never refused for its octets
-  pub stored-octets-right : (gatheringOctetsRight (take gatheringRoom (store c l)) ≡ true)
-      × (recordsRight (length (c .ends)) (drop gatheringRoom (store c l)) ≡ true)
+  pub stored-octets-right : (gatheringOctetsRight (linkOf (store c l)) ≡ true)
+      × (recordsRight (length (c .ends)) (recordsOf (store c l)) ≡ true)
   stored-octets-right =
-      (rw gathering-stored (gathering-right (c .gathering) (take gatheringRoom l) (roomy .payload)),
-        rw ends-stored (ends-right (c .ends) (drop gatheringRoom l) records-fit))
+      (rw gathering-stored (gathering-right (c .gathering) (linkOf l) (roomy .payload)),
+        rw ends-stored (ends-right (c .ends) (recordsOf l) records-fit))
+
+  -- the count is that of the endpoints
+  pub count-stored : countIn (store c l) ≡ length (c .ends)
+  unfolding store countIn
+  count-stored = refl
 
   -- octets behind the layout are never touched
   pub behind-untouched : drop (areaFor (length (c .ends))) (store c l) ≡ drop (areaFor (length (c .ends))) l
-  unfolding areaFor
+  unfolding areaFor recordsOf
   behind-untouched =
-      sym (drop-drop (length (c .ends) * recordRoom) gatheringRoom (store c l))
+      sym (drop-drop (length (c .ends) * recordRoom) recordsPlace (store c l))
       ∙ ap (λ (r : List ℕ). drop (length (c .ends) * recordRoom) r) ends-stored
-      ∙ ends-behind (c .ends) (drop gatheringRoom l) records-fit
-      ∙ drop-drop (length (c .ends) * recordRoom) gatheringRoom l
+      ∙ ends-behind (c .ends) (recordsOf l) records-fit
+      ∙ drop-drop (length (c .ends) * recordRoom) recordsPlace l
 
 -- ---- Storing what was read
 
@@ -370,32 +376,38 @@ module _ (r : List ℕ) (right : recordRight r ≡ true) where
   unfolding recordRight
   delay-right = search (and-l, and-r)
 
-  config-right : getD r 7 0 ≤ 64
+  config-right : getD r 7 0 ≤ configRoom
   unfolding recordRight
   config-right = leb-true _ _ (search (and-l, and-r))
 
--- what lies behind the eight octets, where its length is k
-body-length : (k : ℕ) (r : List ℕ) → 8 + k ≤ length r → length (take k (drop 8 r)) ≡ k
-body-length k r h = length-take-le k (drop 8 r) (rw length-drop (omega arith))
+  unused-right : take 8 (drop 8 r) ≡ unused
+  unfolding recordRight
+  unused-right = same-octets (take 8 (drop 8 r)) unused (search (and-l, and-r))
 
-body-kept : (s : List ℕ) (k : ℕ) (r : List ℕ) → s ≡ take 8 r → 8 + k ≤ length r → front (s ++ take k (drop 8 r)) r ≡ r
-body-kept s k r e h = front-same (s ++ take k (drop 8 r)) r (8 + k) (rw e (sym (take-add 8 k r))) h
+-- what lies behind a head of n octets, where its length is k
+body-length : (n k : ℕ) (r : List ℕ) → n + k ≤ length r → length (take k (drop n r)) ≡ k
+body-length n k r h = length-take-le k (drop n r) (rw length-drop (omega arith))
+
+body-kept : (n : ℕ) (s : List ℕ) (k : ℕ) (r : List ℕ) → s ≡ take n r → n + k ≤ length r → front (s ++ take k (drop n r)) r ≡ r
+body-kept n s k r e h = front-same (s ++ take k (drop n r)) r (n + k) (rw e (sym (take-add n k r))) h
 
 module _ (r : List ℕ) (long : length r ≡ recordRoom) (right : recordRight r ≡ true) (octets : octetsIn r ≡ true) where
-  config-room : 8 + getD r 7 0 ≤ length r
+  config-room : headRoom + getD r 7 0 ≤ length r
   config-room = let short = config-right r right in omega arith
 
-  pub head-kept : headOf (endpointIn r) ≡ take 8 r
+  pub head-kept : headOf (endpointIn r) ≡ take headRoom r
   unfolding headOf endpointIn
   head-kept =
-      rw (state-kept _ (state-right r right), channel-kept _ (channel-right r right), body-length (getD r 7 0) r config-room)
-        (ap (λ (t : List ℕ). getD r 0 0 ∷ getD r 1 0 ∷ getD r 2 0 ∷ getD r 3 0 ∷ (t ++ (getD r 7 0 ∷ [])))
+      rw (state-kept _ (state-right r right), channel-kept _ (channel-right r right),
+          body-length headRoom (getD r 7 0) r config-room)
+        (ap (λ (t : List ℕ). getD r 0 0 ∷ getD r 1 0 ∷ getD r 2 0 ∷ getD r 3 0 ∷ (t ++ (getD r 7 0 ∷ unused)))
             (delay-kept (getD r 4 0) (getD r 5 0) (getD r 6 0) (octet-at r 6 octets) (delay-right r right))
-          ∙ first-eight r (omega arith))
+          ∙ ap₂ _++_ (first-eight r (omega arith)) (sym (unused-right r right))
+          ∙ sym (take-add 8 8 r))
 
   pub end-kept : storeEnd (endpointIn r) r ≡ r
   unfolding storeEnd endpointIn
-  end-kept = body-kept (headOf (endpointIn r)) (getD r 7 0) r head-kept config-room
+  end-kept = body-kept headRoom (headOf (endpointIn r)) (getD r 7 0) r head-kept config-room
 
 -- the payload's length, as its two octets say
 abbrev payloadLength : List ℕ → ℕ
@@ -405,10 +417,10 @@ gathering-head-kept : (r : List ℕ) → getD r 0 0 ≡ 1 → 8 + payloadLength 
     → gatheringHead (gatheringAt r) ≡ take 8 r
 unfolding gatheringHead gatheringAt
 gathering-head-kept r mark room octets =
-    rw (← first-eight r (omega arith), mark, body-length (payloadLength r) r room,
+    rw (← first-eight r (omega arith), mark, body-length 8 (payloadLength r) r room,
         digits-div (getD r 6 0) (octet-at r 7 octets), digits-mod (getD r 6 0) (octet-at r 7 octets))
 
-pub gathering-kept : (r : List ℕ) → length r ≡ gatheringRoom → gatheringOctetsRight r ≡ true → octetsIn r ≡ true
+pub gathering-kept : (r : List ℕ) → length r ≡ linkRoom → gatheringOctetsRight r ≡ true → octetsIn r ≡ true
     → storeGathering (gatheringIn r) r ≡ r
 unfolding gatheringOctetsRight gatheringIn storeGathering gatheringAt longest
 gathering-kept r long right octets =
@@ -424,7 +436,7 @@ gathering-kept r long right octets =
         let fits = leb-true (payloadLength r) 512 (and-r (eqb (getD r 0 0) 1) _ t) in
         let room : 8 + payloadLength r ≤ length r = omega arith in
         rw mark
-          (body-kept (gatheringHead (gatheringAt r)) (payloadLength r) r (gathering-head-kept r mark room octets) room)
+          (body-kept 8 (gatheringHead (gatheringAt r)) (payloadLength r) r (gathering-head-kept r mark room octets) room)
 
 pub ends-kept : (n : ℕ) (l : List ℕ) → n * recordRoom ≤ length l → recordsRight n l ≡ true → octetsIn l ≡ true
     → storeEnds (endsIn n l) l ≡ l
@@ -438,26 +450,35 @@ ends-kept (suc n) l room right octets =
         (octets-drop recordRoom l octets))
     ∙ take-append-drop recordRoom l
 
--- storing what was read changes no octet
-pub store-read : (n : ℕ) (l : List ℕ) → areaFor n ≤ length l → gatheringOctetsRight (take gatheringRoom l) ≡ true
-    → recordsRight n (drop gatheringRoom l) ≡ true → octetsIn l ≡ true → store (connectionIn n l) l ≡ l
-unfolding store connectionIn
-store-read n l area gathering records octets =
-    ap₂ _++_
-      (gathering-kept (take gatheringRoom l) (gathering-room n l area) gathering (octets-take gatheringRoom l octets))
-      (ends-kept n (drop gatheringRoom l) (records-room n l area) records (octets-drop gatheringRoom l octets))
-    ∙ take-append-drop gatheringRoom l
-
--- ---- What has room
-
 pub length-endsIn : (n : ℕ) (l : List ℕ) → length (endsIn n l) ≡ n
 unfolding endsIn
 length-endsIn zero l = refl
 length-endsIn (suc n) l = ap suc (length-endsIn n (drop recordRoom l))
 
+-- an area by its parts
+parts-joined : (l : List ℕ) → recordsPlace ≤ length l → countIn l ∷ (linkOf l ++ recordsOf l) ≡ l
+unfolding countIn linkOf recordsOf
+parts-joined l long =
+    ap (λ (t : List ℕ). getD l 0 0 ∷ (take linkRoom (drop countRoom l) ++ t)) (sym (drop-drop linkRoom countRoom l))
+    ∙ ap (λ (t : List ℕ). getD l 0 0 ∷ t) (take-append-drop linkRoom (drop countRoom l))
+    ∙ sym (drop-cons l 0 0 (omega (arith, long)))
+
+-- storing what was read changes no octet
+pub store-read : (n : ℕ) (l : List ℕ) → countIn l ≡ n → areaFor n ≤ length l → gatheringOctetsRight (linkOf l) ≡ true
+    → recordsRight n (recordsOf l) ≡ true → octetsIn l ≡ true → store (connectionIn n l) l ≡ l
+unfolding store connectionIn areaFor linkOf recordsOf
+store-read n l count area gathering records octets =
+    ap₂ (λ (k : ℕ) (t : List ℕ). k ∷ t) (length-endsIn n (recordsOf l) ∙ sym count)
+      (ap₂ _++_
+        (gathering-kept (linkOf l) (gathering-room n l area) gathering (octets-take linkRoom _ (octets-drop countRoom l octets)))
+        (ends-kept n (recordsOf l) (records-room n l area) records (octets-drop recordsPlace l octets)))
+    ∙ parts-joined l (omega arith)
+
+-- ---- What has room
+
 pub read-config : (r : List ℕ) → recordRight r ≡ true → length (endpointIn r .config) ≤ 64
 unfolding endpointIn
-read-config r right = omega (arith, config-right r right, length-take (getD r 7 0) (drop 8 r))
+read-config r right = omega (arith, config-right r right, length-take (getD r 7 0) (drop headRoom r))
 
 pub read-short : (n : ℕ) (l : List ℕ) → recordsRight n l ≡ true → shortConfigs (endsIn n l) ≡ true
 unfolding endsIn recordsRight each-of
@@ -467,67 +488,12 @@ read-short (suc n) l right =
       (le-leb _ 64 (read-config (take recordRoom l) (and-l _ (recordsRight n (drop recordRoom l)) right)))
       (read-short n (drop recordRoom l) (and-r (recordRight (take recordRoom l)) _ right))
 
-read-payload : (r : List ℕ) → gatheringOctetsRight r ≡ true → PayloadFits (gatheringIn r)
-unfolding gatheringOctetsRight gatheringIn gatheringAt longest
-read-payload r right = go (eqb (getD r 0 0) 0) right
-  where
-    go : (b : Bool) → b || (eqb (getD r 0 0) 1 && leb (payloadLength r) 512) ≡ true
-        → PayloadFits (if b then none else some (gatheringAt r))
-    go true e = tt
-    go false e =
-        let short = leb-true (payloadLength r) 512 (and-r (eqb (getD r 0 0) 1) _ e) in
-        omega (arith, length-take (payloadLength r) (drop 8 r))
-
--- what is read from right octets has room where it was read
-pub read-rooms : (n : ℕ) (l : List ℕ) → areaFor n ≤ length l → gatheringOctetsRight (take gatheringRoom l) ≡ true
-    → recordsRight n (drop gatheringRoom l) ≡ true → Roomy (connectionIn n l) l
-unfolding connectionIn
-read-rooms n l area gathering records =
-    record {
-      area = rw (length-endsIn n (drop gatheringRoom l)) area;
-      configs = read-short n (drop gatheringRoom l) records;
-      payload = read-payload (take gatheringRoom l) gathering
-    }
-
--- room is a matter of the area's length alone
-pub roomy-length : (c : Connection) (l m : List ℕ) → length m ≡ length l → Roomy c l → Roomy c m
-roomy-length c l m same roomy = record { area = rw same (roomy .area); configs = roomy .configs; payload = roomy .payload }
-
-pub short-set : (ends : Ends) (i : ℕ) (e : Endpoint) → shortConfigs ends ≡ true → length (e .config) ≤ 64
-    → shortConfigs (set ends i e) ≡ true
-unfolding each-of
-short-set [] i e all short = refl
-short-set (x ∷ ends) zero e all short =
-    and-both (leb (length (e .config)) 64) (shortConfigs ends) (le-leb _ _ short)
-      (and-r (leb (length (x .config)) 64) (shortConfigs ends) all)
-short-set (x ∷ ends) (suc i) e all short =
-    and-both (leb (length (x .config)) 64) (shortConfigs (set ends i e))
-      (and-l (leb (length (x .config)) 64) (shortConfigs ends) all)
-      (short-set ends i e (and-r (leb (length (x .config)) 64) (shortConfigs ends) all) short)
-
--- an endpoint is replaced by one with a short configuration
-pub roomy-set : (c : Connection) (l : List ℕ) (i : ℕ) (e : Endpoint) → Roomy c l → length (e .config) ≤ 64
-    → Roomy (withEnds (set (c .ends) i e) c) l
-unfolding withEnds
-roomy-set c l i e roomy short =
-    record {
-      area = rw (length-set (c .ends) i e) (roomy .area);
-      configs = short-set (c .ends) i e (roomy .configs) short;
-      payload = roomy .payload
-    }
-
--- of two connections stored one over the other the later is read
-pub store-store : (c d : Connection) (l : List ℕ) → Roomy c l → Roomy d l
-    → connectionIn (length (d .ends)) (store d (store c l)) ≡ d
-store-store c d l before after =
-    reads-stored d (store c l) (roomy-length d l (store c l) (length-store c l before) after)
-
 -- the fresh connection of the traces' book has room in an area for its two endpoints
 pub fresh-roomy : Roomy (freshConnection (bookOf traceBook)) (replicate (areaFor 2) 0xDD)
 unfolding computed traceBook
 fresh-roomy = record { area = lit≤ tt; configs = refl; payload = tt }
 
--- and an area with all that `store-read` asks: zeros, read as idle endpoints of SEID 0
-pub zeros-kept : store (connectionIn 2 (replicate (areaFor 2) 0)) (replicate (areaFor 2) 0) ≡ replicate (areaFor 2) 0
+-- and an area with all that `store-read` asks: a count of two and zeros, read as idle endpoints of SEID 0
+pub zeros-kept : let l : List ℕ = 2 ∷ replicate 680 0 in store (connectionIn 2 l) l ≡ l
 unfolding computed
-zeros-kept = store-read 2 (replicate (areaFor 2) 0) (lit≤ tt) refl refl refl
+zeros-kept = store-read 2 (2 ∷ replicate 680 0) refl (lit≤ tt) refl refl refl

@@ -2,18 +2,18 @@
 -- legal one leaves a legal one.
 use Prim.Native.Nat.{ℕ, zero, suc, _≤_}
 use native.Mathlib.Omega.{arith}
-use mathlib.Core.Path.{_≡_, refl}
+use mathlib.Core.Path.{_≡_, refl, sym, _∙_}
 use mathlib.Core.List.{List, [], _∷_}
 use mathlib.Core.Bool.{true}
 use mathlib.Core.Option.{Option, none, some}
 use lib.ListN.{length, replicate}
 use lib.Dec.{leb, ltb, eqb}
-use borrow.Author.Tests.{leb-true, le-leb, ltb-false, eqb-true, eqb-false}
+use borrow.Author.Tests.{leb-true, le-leb, ltb-false, eq-eqb, eqb-true, eqb-false}
 use Rattle.rules.specs.Octets.{if_then_else_}
 use Rattle.rules.specs.Book.{Book, bookNumber, bookOf}
 use Rattle.rules.specs.Packets.{Gathering, gatheringRight, longest}
 use Rattle.rules.specs.Endpoints.{Connection, legal, legalGathering, freshConnection, happens}
-use Rattle.rules.specs.Saved.{areaFor, connectionIn, store, savedRight}
+use Rattle.rules.specs.Saved.{areaFor, countIn, connectionIn, store, savedRight}
 use Rattle.rules.specs.Host.{numberOr, refusalOf, packetRefusal, Kept, freshCall, Answered, packetCall, eventCall}
 use Rattle.rules.specs.Computed.{computed}
 use Rattle.rules.specs.Table.{traceBook}
@@ -21,7 +21,7 @@ use Rattle.rules.specs.Sessions.{Call, check, fresh, packet, event, sett
 use Rattle.rules.specs.Sessions.{answered, asked, call, after}
 use Rattle.rules.specs.declared.Event.{Event}
 use Rattle.rules.proofs.Tests.{and-l, and-r}
-use Rattle.rules.proofs.SavedReads.{PayloadFits, Roomy, length-store, reads-stored, stored-octets-right}
+use Rattle.rules.proofs.SavedReads.{PayloadFits, Roomy, length-store, reads-stored, count-stored, stored-octets-right}
 use Rattle.rules.proofs.Places.{legal-length}
 use Rattle.rules.proofs.RightBook.{RightBook, right-book, not-failed}
 use Rattle.rules.proofs.Outcomes.{if-arms}
@@ -53,9 +53,10 @@ module _ (book : Book) (c : Connection) (l : List ℕ) (right : RightBook book) 
   stored-right =
       let fits : leb (areaFor (length (c .ends))) (length (store c l)) ≡ true =
             le-leb (areaFor (length (c .ends))) (length (store c l)) (rw (length-store c l legal-roomy, same-count) area) in
+      let count : countIn (store c l) ≡ length (c .ends) = count-stored c l legal-roomy in
       let octets = stored-octets-right c l legal-roomy in
       let reads : legal book (connectionIn (length (c .ends)) (store c l)) ≡ true = rw (reads-stored c l legal-roomy) h in
-      rw (← same-count) (rw (fits, octets .0, octets .1, reads))
+      rw (← same-count) (rw (count, eq-eqb (length (c .ends)) _ refl, fits, octets .0, octets .1, reads))
 
 -- what a right area says
 module _ (book : Book) (l : List ℕ) (h : savedRight book l ≡ true) where
@@ -63,9 +64,18 @@ module _ (book : Book) (l : List ℕ) (h : savedRight book l ≡ true) where
   unfolding savedRight
   right-long = leb-true (areaFor (length book)) (length l) (search (and-l, and-r))
 
+  pub right-count : countIn l ≡ length book
+  unfolding savedRight
+  right-count = eqb-true (countIn l) (length book) (search (and-l, and-r))
+
   pub right-legal : legal book (connectionIn (length book) l) ≡ true
   unfolding savedRight
   right-legal = search (and-l, and-r)
+
+-- One record per book entry: an area that is right for two books has as many records as either has entries.
+pub one-count : (book book′ : Book) (l : List ℕ) → savedRight book l ≡ true → savedRight book′ l ≡ true
+    → length book ≡ length book′
+one-count book book′ l h h′ = sym (right-count book l h) ∙ right-count book′ l h′
 
 -- ---- Each call
 

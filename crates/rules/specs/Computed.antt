@@ -15,7 +15,8 @@ use Rattle.rules.specs.Endpoints.{idle, freshEnds, freshConnection, isAb
 use Rattle.rules.specs.Endpoints.{channelRight, takesDelay, delayRight, farRight, keepsNothing, keepsSettings, legalEnd}
 use Rattle.rules.specs.Endpoints.{legalEnds, awaiting, legalGathering, legal, inState, withChannel, withDelay, withConfig}
 use Rattle.rules.specs.Endpoints.{forgotten, leaving, endAt, upIn, withEnds, downAt, happens}
-use Rattle.rules.specs.Saved.{areaFor, endpointIn, recordRight, headOf, storeEnd, endsIn, recordsRight, storeEnds}
+use Rattle.rules.specs.Saved.{areaFor, countIn, linkOf, recordsOf, endpointIn, recordRight, headOf, storeEnd}
+use Rattle.rules.specs.Saved.{endsIn, recordsRight, storeEnds}
 use Rattle.rules.specs.Saved.{gatheringAt, gatheringIn, gatheringOctetsRight, gatheringHead, storeGathering, connectionIn}
 use Rattle.rules.specs.Saved.{store, savedRight}
 use Rattle.rules.specs.Commands.{stays, moves, rejectBare, rejectElement, rejectSeid, ourIn, farIn, foundOr, atEndpoint}
@@ -37,7 +38,8 @@ unfolding between sameOctets member isEmpty some-of each-of front headed itemsPa
     gathers extended begin isNext joined goesOn taken gather gatheringRight packetsFor partOf firstOctet header countOf
     packetAt packetsFrom cutUp withDone gatherAll idle freshEnds freshConnection isAbsent isAwaited isUp isIdle isReported
     channelRight takesDelay delayRight farRight keepsNothing keepsSettings legalEnd legalEnds awaiting legalGathering
-    legal inState withChannel withDelay withConfig forgotten leaving endAt upIn withEnds downAt happens areaFor endpointIn
+    legal inState withChannel withDelay withConfig forgotten leaving endAt upIn withEnds downAt happens areaFor countIn
+    linkOf recordsOf endpointIn
     recordRight headOf storeEnd endsIn recordsRight storeEnds gatheringAt gatheringIn gatheringOctetsRight gatheringHead
     storeGathering connectionIn store savedRight stays moves rejectBare rejectElement rejectSeid ourIn farIn foundOr
     atEndpoint isConfigured isOpen isStreaming isSet inUse discovered discover capabilities settled setAt setConfiguration

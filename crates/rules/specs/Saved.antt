@@ -6,7 +6,7 @@ use mathlib.Core.Bool.{Bool, true, _&&_, _||_}
 use mathlib.Core.Option.{Option, none, some}
 use lib.ListN.{length, take, drop, getD}
 use lib.Dec.{leb, eqb}
-use Rattle.rules.specs.Octets.{if_then_else_, front}
+use Rattle.rules.specs.Octets.{if_then_else_, sameOctets, front}
 use Rattle.rules.specs.Book.{Book}
 use Rattle.rules.specs.Packets.{Gathering, longest}
 use Rattle.rules.specs.Endpoints.{Endpoint, Ends, Connection, legal}
@@ -19,25 +19,49 @@ use Rattle.rules.specs.declared.Delay.the-variants.{Unreported, Reported
 
 -- ---- The layout
 --
--- octets 0 to 519: the gathering.
+-- octet 0: the count, how many records there are.
+-- octets 1 to 520: the link part, which holds the gathering.
 --   0 mark (0 none, 1 there) · 1 label · 2 message type · 3 signal · 4 packet count · 5 parts received · 6, 7 payload length, high
 --   octet first · 8 to 519 room for the payload
 -- then, for each entry of the book in its order, a record of 80 octets:
 --   0 our SEID · 1 state · 2 channel · 3 far SEID (0 none) · 4 delay mark (0 unreported, 1 reported) · 5, 6 delay, high octet
---   first · 7 configuration length (0 none) · 8 to 71 room for the configuration · 72 to 79 spare
+--   first · 7 configuration length (0 none) · 8 to 15 no use yet, zero · 16 to 79 room for the configuration
 --
--- What is absent in octets 0 to 7 of a record is zero there. These do not count: all of the gathering's octets but the mark where
--- the mark says none, octets behind a payload's or a configuration's end, spare octets, and octets behind the last record.
+-- What is absent in the head of a record, its first 16 octets, is zero there. These do not count: all of the gathering's octets but
+-- the mark where the mark says none, octets behind a payload's or a configuration's end, and octets behind the last record.
 
-abbrev pub gatheringRoom : ℕ
-gatheringRoom = 520
+abbrev pub countRoom : ℕ
+countRoom = 1
+
+abbrev pub linkRoom : ℕ
+linkRoom = 520
+
+-- where the records begin
+abbrev pub recordsPlace : ℕ
+recordsPlace = 521
 
 abbrev pub recordRoom : ℕ
 recordRoom = 80
 
+abbrev pub headRoom : ℕ
+headRoom = 16
+
+abbrev pub configRoom : ℕ
+configRoom = 64
+
 -- the octets that a connection over n endpoints takes
 unfoldable pub areaFor : ℕ → ℕ
-areaFor n = gatheringRoom + n * recordRoom
+areaFor n = recordsPlace + n * recordRoom
+
+-- the three parts of an area
+unfoldable pub countIn : List ℕ → ℕ
+countIn l = getD l 0 0
+
+unfoldable pub linkOf : List ℕ → List ℕ
+linkOf l = take linkRoom (drop countRoom l)
+
+unfoldable pub recordsOf : List ℕ → List ℕ
+recordsOf l = drop recordsPlace l
 
 -- ---- One record
 
@@ -83,20 +107,24 @@ endpointIn r =
       channel = channelIn (getD r 2 0);
       far = record { 0 = getD r 3 0 };
       delay = delayIn (getD r 4 0) (pairIn (getD r 5 0) (getD r 6 0));
-      config = take (getD r 7 0) (drop 8 r)
+      config = take (getD r 7 0) (drop headRoom r)
     }
 
--- octets that no stored record has
+-- the octets of a head that have no use yet
+abbrev pub unused : List ℕ
+unused = 0 ∷ 0 ∷ 0 ∷ 0 ∷ 0 ∷ 0 ∷ 0 ∷ 0 ∷ []
+
+-- octets that a stored record can have
 unfoldable pub recordRight : List ℕ → Bool
 recordRight r =
     leb (getD r 1 0) 5 && leb (getD r 2 0) 2
     && (eqb (getD r 4 0) 1 || (eqb (getD r 4 0) 0 && eqb (getD r 5 0) 0 && eqb (getD r 6 0) 0))
-    && leb (getD r 7 0) 64
+    && leb (getD r 7 0) configRoom && sameOctets (take 8 (drop 8 r)) unused
 
 unfoldable pub headOf : Endpoint → List ℕ
 headOf e =
     e .seid .0 ∷ stateOctet (e .state) ∷ channelOctet (e .channel) ∷ e .far .0 ∷ delayMark (e .delay)
-    ∷ delayTenths (e .delay) / 256 ∷ delayTenths (e .delay) % 256 ∷ length (e .config) ∷ []
+    ∷ delayTenths (e .delay) / 256 ∷ delayTenths (e .delay) % 256 ∷ length (e .config) ∷ unused
 
 unfoldable pub storeEnd : Endpoint → List ℕ → List ℕ
 storeEnd e r = front (headOf e ++ e .config) r
@@ -149,14 +177,15 @@ storeGathering (some g) l = front (gatheringHead g ++ g .message .payload) l
 -- ---- The connection
 
 unfoldable pub connectionIn : ℕ → List ℕ → Connection
-connectionIn n l =
-    record { ends = endsIn n (drop gatheringRoom l); gathering = gatheringIn (take gatheringRoom l) }
+connectionIn n l = record { ends = endsIn n (recordsOf l); gathering = gatheringIn (linkOf l) }
 
 unfoldable pub store : Connection → List ℕ → List ℕ
-store c l = storeGathering (c .gathering) (take gatheringRoom l) ++ storeEnds (c .ends) (drop gatheringRoom l)
+store c l =
+    length (c .ends) ∷ (storeGathering (c .gathering) (linkOf l) ++ storeEnds (c .ends) (recordsOf l))
 
--- Number 12 is given where this is false: too short an area, octets that mean nothing, or a connection that is not legal.
+-- Number 12 is given where this is false: a count that is not the book's, too short an area, octets that mean nothing, or a
+-- connection that is not legal.
 unfoldable pub savedRight : Book → List ℕ → Bool
 savedRight book l =
-    leb (areaFor (length book)) (length l) && gatheringOctetsRight (take gatheringRoom l)
-    && recordsRight (length book) (drop gatheringRoom l) && legal book (connectionIn (length book) l)
+    eqb (countIn l) (length book) && leb (areaFor (length book)) (length l) && gatheringOctetsRight (linkOf l)
+    && recordsRight (length book) (recordsOf l) && legal book (connectionIn (length book) l)

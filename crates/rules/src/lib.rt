@@ -1,4 +1,5 @@
 // The words that the definitions and the code share. There is no function here: the meaning stands in specs/.
+pub mod layout;
 
 // A SEID of ours, and one of the far end's: counted separately, and neither is accepted where the other belongs.
 pub struct OurSeid(pub u8);

@@ -1,16 +1,20 @@
--- A record's head, octet by octet: a list of at least eight octets is eight conses and a rest, after which all of it computes.
+-- A record's head, octet by octet: a list of at least eight octets is eight conses and a rest, after which all of it computes; the
+-- octets without a use are written as one row behind them.
 use Prim.Native.Nat.{ℕ, zero, suc, _≤_, _/_, _%_}
-use mathlib.Core.Path.{_≡_, refl, _∙_}
+use mathlib.Core.Path.{_≡_, refl, ap, _∙_}
 use mathlib.Core.List.{List, [], _∷_, _++_}
 use native.Mathlib.Omega.{arith}
 use lib.ListN.{length, drop, getD, set}
+use lib.Seq.{drop-drop}
 use Rattle.rules.specs.Saved.{stateIn, stateOctet, channelIn, channelOctet, delayIn, delayMark, delayTenths, pairIn}
+use Rattle.rules.specs.Saved.{headRoom, unused}
+use Rattle.octets.specs.Patch.{patch}
 use Rattle.rules.specs.declared.State.{State}
 use Rattle.rules.specs.declared.State.the-variants.{Idle}
 use Rattle.rules.specs.declared.Channel.{Channel}
 use Rattle.rules.specs.declared.Delay.{Delay}
 use Rattle.rules.specs.declared.Channel.the-variants.{Absent}
-use Rattle.saved.specs.Records.{loaded, headOctets}
+use Rattle.saved.specs.Records.{loaded, usedOctets, headOctets}
 use Rattle.saved.specs.declared.records.Endpoint.{Endpoint as Head}
 
 -- octets that are no state and no channel
@@ -59,11 +63,15 @@ loaded-by l s c d p q r =
       length = getD l 7 0
     }
 
-pub put-by : (l : List ℕ) (e : Head) (s c m t : ℕ) → 8 ≤ length l → s ≡ stateOctet (e .state) → c ≡ channelOctet (e .channel)
-  → m ≡ delayMark (e .delay) → t ≡ delayTenths (e .delay)
+pub put-by : (l : List ℕ) (e : Head) (s c m t : ℕ) → headRoom ≤ length l → s ≡ stateOctet (e .state)
+  → c ≡ channelOctet (e .channel) → m ≡ delayMark (e .delay) → t ≡ delayTenths (e .delay)
   → set (set (set (set (set (set (set (set l 0 (e .seid .0)) 1 s) 2 c) 3 (e .far .0)) 4 m) 5 (t / 256)) 6 (t % 256)) 7 (e .length)
-    ≡ headOctets e ++ drop 8 l
-unfolding headOctets
+    ≡ usedOctets e ++ drop 8 l
 put-by l e s c m t room p q r u =
-    eight-set l (e .seid .0) s c (e .far .0) m (t / 256) (t % 256) (e .length) room
+    eight-set l (e .seid .0) s c (e .far .0) m (t / 256) (t % 256) (e .length) (omega arith)
     ∙ (λ i. (e .seid .0 ∷ p i ∷ q i ∷ e .far .0 ∷ r i ∷ u i / 256 ∷ u i % 256 ∷ e .length ∷ []) ++ drop 8 l)
+
+-- the octets without a use behind those with one
+pub unused-behind : (l m : List ℕ) (e : Head) → m ≡ usedOctets e ++ drop 8 l → patch 8 unused m ≡ headOctets e ++ drop headRoom l
+unfolding headOctets patch
+unused-behind l m e same = ap (patch 8 unused) same ∙ ap (λ (x : List ℕ). headOctets e ++ x) (drop-drop 8 8 l)

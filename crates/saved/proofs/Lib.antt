@@ -1,3 +1,4 @@
+pub mod Apart
 pub mod Configs
 pub mod Heads
 pub mod OneStore

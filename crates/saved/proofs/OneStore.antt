@@ -12,13 +12,13 @@ use lib.Seq.{drop-drop}
 use Rattle.rules.specs.Octets.{front}
 use Rattle.rules.specs.Endpoints.{endAt}
 use Rattle.rules.specs.Saved.{recordRoom, endpointIn, headOf, storeEnd, endsIn, storeEnds, stateOctet, channelOctet, delayMark}
-use Rattle.rules.specs.Saved.{delayTenths, recordRight, recordsRight}
+use Rattle.rules.specs.Saved.{delayTenths, recordRight, recordsRight, headRoom, configRoom, unused}
 use Rattle.rules.proofs.OneRecord.{end-at, store-one}
 use Rattle.octets.specs.Patch.{patch, part}
 use Rattle.octets.proofs.Patches.{lent-front}
 use Rattle.rules.proofs.Tests.{and-l, and-r}
 use Rattle.rules.proofs.SavedReads.{drop-first}
-use Rattle.saved.specs.Records.{loaded, endpointOf, headOctets, recordAt, configAt}
+use Rattle.saved.specs.Records.{loaded, endpointOf, headOctets, recordAt, configSizeAt, configAt}
 use Rattle.saved.specs.Held.{Held}
 use Rattle.saved.specs.declared.records.Endpoint.{Endpoint as Head}
 use Rattle.saved.proofs.Configs.{config-length, config-there}
@@ -28,7 +28,7 @@ head-same : (h : Head) (c : List ℕ) → length c ≡ h .length → headOf (end
 unfolding headOf endpointOf headOctets
 head-same h c e =
     ap (λ (n : ℕ). h .seid .0 ∷ stateOctet (h .state) ∷ channelOctet (h .channel) ∷ h .far .0 ∷ delayMark (h .delay)
-       ∷ delayTenths (h .delay) / 256 ∷ delayTenths (h .delay) % 256 ∷ n ∷ []) e
+       ∷ delayTenths (h .delay) / 256 ∷ delayTenths (h .delay) % 256 ∷ n ∷ unused) e
 
 -- a write within one record
 within-record : (i : ℕ) (s l : List ℕ) → length s ≤ recordRoom
@@ -37,19 +37,19 @@ within-record i s l h =
     ap (λ (x : List ℕ). take (i * recordRoom) l ++ (front s (recordAt i l) ++ x)) (sym (drop-drop recordRoom (i * recordRoom) l))
     ∙ lent-front (i * recordRoom) recordRoom s l h
 
-eight-more : (h : Head) (c : List ℕ) → length c ≤ 64 → length (headOctets h ++ c) ≤ recordRoom
+head-and-config : (h : Head) (c : List ℕ) → length c ≤ configRoom → length (headOctets h ++ c) ≤ recordRoom
 unfolding headOctets
-eight-more h c e = omega arith
+head-and-config h c e = omega arith
 
 -- the head and the configuration of one endpoint written
-pub stored-one : (n i : ℕ) (l : List ℕ) (h : Head) (c : List ℕ) → i < n → Held n l → length c ≡ h .length → length c ≤ 64
+pub stored-one : (n i : ℕ) (l : List ℕ) (h : Head) (c : List ℕ) → i < n → Held n l → length c ≡ h .length → length c ≤ configRoom
   → patch (i * recordRoom) (headOctets h ++ c) l ≡ storeEnds (set (endsIn n l) i (endpointOf h c)) l
 unfolding storeEnd endpointOf
 stored-one n i l h c inside held e short =
     sym (store-one n i l (endpointOf h c) inside (held .room) (held .right) (held .octets)
       ∙ ap (λ (s : List ℕ). take (i * recordRoom) l ++ (front (s ++ c) (recordAt i l) ++ drop (i * recordRoom + recordRoom) l))
           (head-same h c e)
-      ∙ within-record i (headOctets h ++ c) l (eight-more h c short))
+      ∙ within-record i (headOctets h ++ c) l (head-and-config h c short))
 
 -- the endpoint at a place, as the code has it
 pub loaded-one : (n i : ℕ) (l : List ℕ) → i < n → endAt (endsIn n l) i ≡ endpointOf (loaded (recordAt i l)) (configAt i l)
@@ -76,12 +76,12 @@ span i = omega arith
 pub get-by : (i : ℕ) (l : List ℕ) (h : Head) → h ≡ loaded (take (i * 80 + 80 - i * 80) (drop (i * 80) l)) → h ≡ loaded (recordAt i l)
 get-by i l h e = e ∙ ap (λ (k : ℕ). loaded (take k (drop (i * 80) l))) (span i)
 
-pub set-by : (i : ℕ) (l m : List ℕ) (e : Head) → m ≡ headOctets e ++ drop 8 (take (i * 80 + 80 - i * 80) (drop (i * 80) l))
+pub set-by : (i : ℕ) (l m : List ℕ) (e : Head) → m ≡ headOctets e ++ drop headRoom (take (i * 80 + 80 - i * 80) (drop (i * 80) l))
   → take (i * 80) l ++ (m ++ drop (i * 80 + 80 - i * 80) (drop (i * 80) l)) ≡ patch (i * recordRoom) (headOctets e) l
 unfolding headOctets front
 set-by i l m e q =
     ap (λ (x : List ℕ). take (i * 80) l ++ (x ++ drop (i * 80 + 80 - i * 80) (drop (i * 80) l))) q
-    ∙ ap (λ (x : ℕ). take (i * 80) l ++ ((headOctets e ++ drop 8 (take x (drop (i * 80) l))) ++ drop x (drop (i * 80) l))) (span i)
+    ∙ ap (λ (x : ℕ). take (i * 80) l ++ ((headOctets e ++ drop headRoom (take x (drop (i * 80) l))) ++ drop x (drop (i * 80) l))) (span i)
     ∙ lent-front (i * 80) 80 (headOctets e) l (lit≤ tt)
 
 -- ---- The head alone is written: the configuration that stands there stays, or there is none any more
@@ -96,27 +96,26 @@ record-right (suc n) (suc i) l h e =
       (record-right n i (drop recordRoom l) (omega arith)
         (and-r (recordRight (take recordRoom l)) (recordsRight n (drop recordRoom l)) e))
 
-length-right : (r : List ℕ) → recordRight r ≡ true → getD r 7 0 ≤ 64
+length-right : (r : List ℕ) → recordRight r ≡ true → getD r 7 0 ≤ configRoom
 unfolding recordRight
-length-right r e = leb-true (getD r 7 0) 64 (search (and-l, and-r))
+length-right r e = leb-true (getD r 7 0) configRoom (search (and-l, and-r))
 
 module _ (n i : ℕ) (l : List ℕ) (inside : i < n) (held : Held n l) where
   -- a record's place has room
   pub record-inside : (i + 1) * recordRoom ≤ length l
   record-inside = omega (arith, held .room, mul-le-mul-right recordRoom inside)
 
-  length-told : loaded (recordAt i l) .length ≤ 64
-  unfolding loaded
+  pub length-told : configSizeAt i l ≤ configRoom
   length-told = length-right (recordAt i l) (record-right n i l inside (held .right))
 
   pub head-moved : (h : Head) → h .length ≡ loaded (recordAt i l) .length
     → patch (i * recordRoom) (headOctets h) l ≡ storeEnds (set (endsIn n l) i (endpointOf h (configAt i l))) l
-  unfolding headOctets part
+  unfolding headOctets part loaded
   head-moved h e =
       let size = config-length i l record-inside length-told in
       let there = config-there i l record-inside length-told in
       head-alone (i * recordRoom) (headOctets h) (configAt i l) l
-        (there ∙ ap (λ (k : ℕ). take k (drop (i * recordRoom + 8) l)) (sym size))
+        (there ∙ ap (λ (k : ℕ). take k (drop (i * recordRoom + headRoom) l)) (sym size))
       ∙ stored-one n i l h (configAt i l) inside held (size ∙ sym e) (omega (arith, size, length-told))
 
   pub head-emptied : (h : Head) → h .length ≡ 0

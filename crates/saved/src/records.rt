@@ -1,18 +1,29 @@
-// One endpoint's record in the saved area: its head of eight octets travels by value, its configuration stays where it is.
+// One endpoint's record in the saved area: its head travels by value, its configuration stays where it is.
 use rules::Channel;
 use rules::Delay;
 use rules::FarSeid;
 use rules::OurSeid;
 use rules::State;
+use rules::layout::CHANNEL;
+use rules::layout::CONFIG_LENGTH;
+use rules::layout::DELAY_HIGH;
+use rules::layout::DELAY_LOW;
+use rules::layout::DELAY_MARK;
+use rules::layout::FAR;
+use rules::layout::HEAD;
+use rules::layout::RECORD;
+use rules::layout::SEID;
+use rules::layout::STATE;
+use rules::layout::UNUSED;
 
 ghost use mathlib.Core.Path.{_≡_};
 ghost use mathlib.Core.List.{_++_};
 ghost use Prim.Native.Nat.{_+_, _*_, _≤_};
 ghost use lib.ListN.{length, drop};
 ghost use Rattle.rules.specs.Saved.{stateIn, stateOctet, channelIn, channelOctet, delayIn, delayMark, delayTenths, pairIn};
-ghost use Rattle.rules.specs.Saved.{recordRoom};
+ghost use Rattle.rules.specs.Saved.{recordRoom, headRoom, configRoom};
 ghost use Rattle.octets.specs.Patch.{patch};
-ghost use Rattle.saved.specs.Records.{loaded, headOctets, recordAt, configAt};
+ghost use Rattle.saved.specs.Records.{loaded, usedOctets, headOctets, recordAt, configSizeAt, configAt};
 
 // A record's head: what is there of the endpoint but the octets of its configuration, of which it has the length.
 pub struct Endpoint {
@@ -99,38 +110,48 @@ fn delay_tenths(delay: Delay) -> u16
 }
 
 pub fn load(slot: &[u8]) -> Endpoint
-    requires { ⌜ 8 ≤ length (now slot) ⌝ }
+    requires { ⌜ headRoom ≤ length (now slot) ⌝ }
     ensures { λ r. ⌜ r ≡ loaded (now (slot .entry)) ⌝ }
 {
-    let state = state_in(slot[1]);
-    let channel = channel_in(slot[2]);
-    let delay = delay_in(slot[4], slot[5], slot[6]);
+    let state = state_in(slot[STATE]);
+    let channel = channel_in(slot[CHANNEL]);
+    let delay = delay_in(slot[DELAY_MARK], slot[DELAY_HIGH], slot[DELAY_LOW]);
     Endpoint {
-        seid: OurSeid(slot[0]),
+        seid: OurSeid(slot[SEID]),
         state,
         channel,
-        far: FarSeid(slot[3]),
+        far: FarSeid(slot[FAR]),
         delay,
-        length: slot[7],
+        length: slot[CONFIG_LENGTH],
     }
 }
 
-pub fn put_head(slot: &mut [u8], e: Endpoint)
-    requires { ⌜ 8 ≤ length (now slot) ⌝ }
-    ensures { λ _. ⌜ now (slot .exit) ≡ headOctets e ++ drop 8 (now (slot .entry)) ⌝ }
+// The octets of a head that have a use.
+fn put_used(slot: &mut [u8], e: Endpoint)
+    requires { ⌜ headRoom ≤ length (now slot) ⌝ }
+    ensures { λ _. ⌜ now (slot .exit) ≡ usedOctets e ++ drop 8 (now (slot .entry)) ⌝ }
 {
     let state = e.state;
     let channel = e.channel;
     let delay = e.delay;
     let tenths = delay_tenths(delay);
-    slot[0] = e.seid.0;
-    slot[1] = state_octet(state);
-    slot[2] = channel_octet(channel);
-    slot[3] = e.far.0;
-    slot[4] = delay_mark(delay);
-    slot[5] = (tenths / 256) as u8;
-    slot[6] = (tenths % 256) as u8;
-    slot[7] = e.length;
+    slot[SEID] = e.seid.0;
+    slot[STATE] = state_octet(state);
+    slot[CHANNEL] = channel_octet(channel);
+    slot[FAR] = e.far.0;
+    slot[DELAY_MARK] = delay_mark(delay);
+    slot[DELAY_HIGH] = (tenths / 256) as u8;
+    slot[DELAY_LOW] = (tenths % 256) as u8;
+    slot[CONFIG_LENGTH] = e.length;
+}
+
+pub fn put_head(slot: &mut [u8], e: Endpoint)
+    requires { ⌜ headRoom ≤ length (now slot) ⌝ }
+    ensures { λ _. ⌜ now (slot .exit) ≡ headOctets e ++ drop headRoom (now (slot .entry)) ⌝ }
+{
+    put_used(slot, e);
+    let unused = [0u8; HEAD - UNUSED];
+    octets::put(slot, UNUSED, &unused);
 }
 
 // The head of record i.
@@ -138,8 +159,8 @@ pub fn get(records: &[u8], i: usize) -> Endpoint
     requires { ⌜ (i + 1) * recordRoom ≤ length (now records) ⌝ }
     ensures { λ r. ⌜ r ≡ loaded (recordAt i (now (records .entry))) ⌝ }
 {
-    let from = i * 80;
-    load(&records[from..from + 80])
+    let from = i * RECORD;
+    load(&records[from..from + RECORD])
 }
 
 // Stores the head of record i; its configuration stays.
@@ -147,15 +168,15 @@ pub fn set(records: &mut [u8], i: usize, e: Endpoint)
     requires { ⌜ (i + 1) * recordRoom ≤ length (now records) ⌝ }
     ensures { λ _. ⌜ now (records .exit) ≡ patch (i * recordRoom) (headOctets e) (now (records .entry)) ⌝ }
 {
-    let from = i * 80;
-    put_head(&mut records[from..from + 80], e);
+    let from = i * RECORD;
+    put_head(&mut records[from..from + RECORD], e);
 }
 
 // The configuration of record i.
 pub fn config(records: &[u8], i: usize) -> &[u8]
-    requires { ⌜ ((i + 1) * recordRoom ≤ length (now records)) × (length (configAt i (now records)) ≤ 64) ⌝ }
+    requires { ⌜ ((i + 1) * recordRoom ≤ length (now records)) × (configSizeAt i (now records) ≤ configRoom) ⌝ }
     ensures { λ r. ⌜ now r ≡ configAt i (now (records .entry)) ⌝ }
 {
-    let from = i * 80;
-    octets::part(records, from + 8, records[from + 7] as usize)
+    let from = i * RECORD;
+    octets::part(records, from + HEAD, records[from + CONFIG_LENGTH] as usize)
 }

@@ -1,0 +1,20 @@
+// The saved connection's layout, each size and place once (specs/Saved.antt, docs/SAVED.md): the count, the link part, the records.
+pub const COUNT: usize = 1;
+pub const LINK: usize = 520;
+pub const RECORDS: usize = COUNT + LINK;
+pub const RECORD: usize = 80;
+
+// A record: its head, then room for the configuration.
+pub const HEAD: usize = 16;
+pub const CONFIG: usize = 64;
+
+// Places in a head.
+pub const SEID: usize = 0;
+pub const STATE: usize = 1;
+pub const CHANNEL: usize = 2;
+pub const FAR: usize = 3;
+pub const DELAY_MARK: usize = 4;
+pub const DELAY_HIGH: usize = 5;
+pub const DELAY_LOW: usize = 6;
+pub const CONFIG_LENGTH: usize = 7;
+pub const UNUSED: usize = 8;
