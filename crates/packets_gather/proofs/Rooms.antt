@@ -3,20 +3,18 @@
 use borrow.Author.Tests.{leb-true, eqb-true, ne-eqb}
 use Prim.Native.Nat.{ℕ, _≤_}
 use native.Mathlib.Omega.{arith}
-use mathlib.Core.Path.{_≡_, refl, sym, ap, ap₂, _∙_}
-use mathlib.Core.List.{List, [], _++_, append-nil}
+use mathlib.Core.Path.{_≡_}
+use mathlib.Core.List.{List}
 use mathlib.Core.Bool.{true, _&&_}
 use mathlib.Core.Option.{Option, none, some}
 use lib.Dec.{leb, eqb}
-use lib.ListN.{length, take, drop, getD, length-drop, drop-of-length-le}
-use lib.Seq.{take-all, length-take-le}
-use Rattle.rules.specs.Octets.{each-of}
+use lib.ListN.{length, drop, getD, length-drop}
+use lib.Seq.{length-take-le}
 use Rattle.rules.specs.Packets.{Gathering, longest, gatheringRight, gather}
-use Rattle.rules.specs.Endpoints.{Connection, legalGathering}
-use Rattle.rules.specs.Saved.{gatheringRoom, areaFor, pairIn, gatheringAt, gatheringIn, gatheringOctetsRight, storeGathering}
-use Rattle.rules.specs.Saved.{connectionIn, storeEnds, store}
+use Rattle.rules.specs.Endpoints.{legalGathering}
+use Rattle.rules.specs.Saved.{gatheringRoom, pairIn, gatheringAt, gatheringIn, gatheringOctetsRight, storeGathering}
 use Rattle.rules.proofs.Tests.{and-l, and-r}
-use Rattle.rules.proofs.SavedReads.{PayloadFits, Roomy, length-store, reads-stored, stored-octets-right}
+use Rattle.rules.proofs.SavedReads.{PayloadFits, gathering-back, gathering-length, gathering-right}
 use Rattle.rules.proofs.RightMessages.{gather-right}
 use Rattle.packets_gather.specs.Rooms.{RoomRight}
 
@@ -54,38 +52,15 @@ unfolding legalGathering gatheringRight longest
 payload-fits none right = tt
 payload-fits (some g) right = leb-true (length (g .message .payload)) 512 (search (and-l, and-r) depth 7)
 
--- a connection without endpoints
-alone : Option Gathering → Connection
-alone g = record { ends = []; gathering = g }
-
 module _ (g : Option Gathering) (room : List ℕ) (long : length room ≡ gatheringRoom) (right : legalGathering g ≡ true) where
-  roomy : Roomy (alone g) room
-  unfolding alone areaFor each-of
-  roomy = record { area = omega arith; configs = refl; payload = payload-fits g right }
-
-  stored : store (alone g) room ≡ storeGathering g room
-  unfolding alone store storeEnds
-  stored =
-      ap₂ (λ (x y : List ℕ). storeGathering g x ++ y) (take-all gatheringRoom room (omega arith))
-        (drop-of-length-le room {i = gatheringRoom} (omega arith))
-      ∙ append-nil (storeGathering g room)
-
-  stored-length : length (storeGathering g room) ≡ gatheringRoom
-  stored-length = ap length (sym stored) ∙ length-store (alone g) room roomy ∙ long
-
-  stored-whole : take gatheringRoom (store (alone g) room) ≡ storeGathering g room
-  stored-whole = ap (take gatheringRoom) stored ∙ take-all gatheringRoom (storeGathering g room) (omega (arith, stored-length))
-
   pub stored-read : gatheringIn (storeGathering g room) ≡ g
-  unfolding alone connectionIn
-  stored-read =
-      ap gatheringIn (sym stored-whole) ∙ ap (λ (c : Connection). c .gathering) (reads-stored (alone g) room roomy)
+  stored-read = gathering-back g room
 
   pub stored-right : RoomRight (storeGathering g room)
   stored-right =
       record {
-        long = stored-length;
-        octets = rw stored-whole at (stored-octets-right (alone g) room roomy .0);
+        long = gathering-length g room (payload-fits g right) long;
+        octets = gathering-right g room (payload-fits g right);
         limits = rw stored-read right
       }
 

@@ -18,7 +18,8 @@ use Rattle.rules.specs.Octets.{octetsIn, if_then_else_, sameOctets, each
 use Rattle.rules.specs.Book.{bookOf}
 use Rattle.rules.specs.Packets.{Gathering, longest}
 use Rattle.rules.specs.Endpoints.{Endpoint, Ends, Connection, withEnds, freshConnection}
-use Rattle.rules.specs.Saved.{countRoom, linkRoom, recordsPlace, recordRoom, headRoom, configRoom, areaFor, countIn, linkOf, recordsOf, unused, pairIn, stateIn, stateOctet, channelIn, channelOctet}
+use Rattle.rules.specs.Saved.{countRoom, gatheringRoom, linkRoom, recordsPlace, recordRoom, headRoom, configRoom}
+use Rattle.rules.specs.Saved.{areaFor, countIn, linkOf, recordsOf, unused, pairIn, stateIn, stateOctet, channelIn, channelOctet}
 use Rattle.rules.specs.Saved.{delayIn, delayMark, delayTenths, endpointIn, recordRight, headOf, storeEnd}
 use Rattle.rules.specs.Saved.{endsIn, recordsRight, storeEnds, gatheringAt, gatheringIn, gatheringOctetsRight}
 use Rattle.rules.specs.Saved.{gatheringHead, storeGathering, connectionIn, store}
@@ -104,8 +105,8 @@ pub end-length : (e : Endpoint) (r : List ℕ) → length (e .config) ≤ 64 →
 unfolding storeEnd headOf
 end-length e r short long = front-length (headOf e ++ e .config) r (omega arith) ∙ long
 
-pub gathering-length : (g : Option Gathering) (r : List ℕ) → PayloadFits g → length r ≡ linkRoom
-    → length (storeGathering g r) ≡ linkRoom
+pub gathering-length : (g : Option Gathering) (r : List ℕ) → PayloadFits g → length r ≡ gatheringRoom
+    → length (storeGathering g r) ≡ gatheringRoom
 unfolding storeGathering gatheringHead
 gathering-length none r fits long = front-length (0 ∷ []) r (omega arith) ∙ long
 gathering-length (some g) r fits long = front-length (gatheringHead g ++ g .message .payload) r (omega arith) ∙ long
@@ -420,7 +421,7 @@ gathering-head-kept r mark room octets =
     rw (← first-eight r (omega arith), mark, body-length 8 (payloadLength r) r room,
         digits-div (getD r 6 0) (octet-at r 7 octets), digits-mod (getD r 6 0) (octet-at r 7 octets))
 
-pub gathering-kept : (r : List ℕ) → length r ≡ linkRoom → gatheringOctetsRight r ≡ true → octetsIn r ≡ true
+pub gathering-kept : (r : List ℕ) → length r ≡ gatheringRoom → gatheringOctetsRight r ≡ true → octetsIn r ≡ true
     → storeGathering (gatheringIn r) r ≡ r
 unfolding gatheringOctetsRight gatheringIn storeGathering gatheringAt longest
 gathering-kept r long right octets =

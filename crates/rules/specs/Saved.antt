@@ -33,8 +33,12 @@ use Rattle.rules.specs.declared.Delay.the-variants.{Unreported, Reported
 abbrev pub countRoom : ℕ
 countRoom = 1
 
+abbrev pub gatheringRoom : ℕ
+gatheringRoom = 520
+
+-- the link part is the gathering
 abbrev pub linkRoom : ℕ
-linkRoom = 520
+linkRoom = gatheringRoom
 
 -- where the records begin
 abbrev pub recordsPlace : ℕ

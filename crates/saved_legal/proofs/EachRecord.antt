@@ -9,19 +9,28 @@ use lib.ListN.{length, take, drop, getD, length-take, length-drop}
 use lib.Seq.{drop-drop}
 use lib.Dec.{leb, eqb, lit≤}
 use borrow.Author.Tests.{leb-true, eq-eqb, ne-eqb}
-use Rattle.rules.specs.Octets.{if_then_else_, isEmpty}
+use Rattle.rules.specs.Octets.{if_then_else_, sameOctets, isEmpty}
 use Rattle.rules.specs.Book.{Entry, Book, entriesIn, bookOf}
 use Rattle.rules.specs.Endpoints.{isReported, isIdle, isAwaited, channelRight, takesDelay, delayRight, keepsNothing}
 use Rattle.rules.specs.Endpoints.{keepsSettings, legalEnd, legalEnds, awaiting}
-use Rattle.rules.specs.Saved.{recordRoom, channelIn, endpointIn, recordRight, endsIn, recordsRight}
+use Rattle.rules.specs.Saved.{recordRoom, headRoom, configRoom, unused, channelIn, endpointIn, recordRight, endsIn, recordsRight}
 use Rattle.rules.proofs.Tests.{and-l, and-r}
 use Rattle.octets.specs.Patch.{part}
 use Rattle.book.proofs.Found.{entryBy, entries-first, book-length}
 use Rattle.saved.specs.Records.{loaded}
 use Rattle.saved.specs.declared.records.Endpoint.{Endpoint as Head}
-use Rattle.saved_legal.specs.Legal.{settingsRight, awaitsIn, recordLegal, recordsLegal}
+use Rattle.saved_legal.specs.Legal.{settingsRight, usedRight, awaitsIn, recordLegal, recordsLegal}
 
 -- ---- One record
+
+-- its octets, those with a use first
+pub used-wrong : (r : List ℕ) → usedRight r ≡ false → false ≡ recordRight r
+unfolding recordRight usedRight
+used-wrong r e = rw e
+
+pub unused-decide : (r p : List ℕ) → p ≡ part 8 8 r → usedRight r ≡ true → sameOctets p unused ≡ recordRight r
+unfolding recordRight usedRight part
+unused-decide r p q e = rw (e, q)
 
 -- a part is no longer than was asked for
 pub part-short : (from size : ℕ) (l : List ℕ) → size ≤ 64 → length (part from size l) ≤ 64
@@ -48,7 +57,7 @@ module _ (n : Entry) (r : List ℕ) where
 
     pub config-short : h .length ≤ 64
     unfolding loaded recordRight
-    config-short = rw e (leb-true (getD r 7 0) 64 (search (and-l, and-r)))
+    config-short = rw e (leb-true (getD r 7 0) configRoom (search (and-l, and-r)))
 
     pub seid-wrong : (h .seid .0 ≡ n .seid .0 → ⊥) → false ≡ recordLegal n r
     seid-wrong f = sym (by-head ∙ rw (ne-eqb (h .seid .0) (n .seid .0) f))
@@ -61,20 +70,20 @@ module _ (n : Entry) (r : List ℕ) where
         nothing-kept : length r ≡ recordRoom
           → eqb (h .far .0) 0 && eqb (h .length) 0 && not (isReported (h .delay)) ≡ keepsNothing (endpointIn r)
         unfolding keepsNothing endpointIn loaded
-        nothing-kept long = rw (e, empty-taken (getD r 7 0) (drop 8 r) (rw length-drop (omega arith)))
+        nothing-kept long = rw (e, empty-taken (getD r 7 0) (drop headRoom r) (rw length-drop (omega arith)))
 
         pub idle-kept : isIdle (h .state) ≡ true → length r ≡ recordRoom
           → eqb (h .far .0) 0 && eqb (h .length) 0 && not (isReported (h .delay)) ≡ recordLegal n r
         idle-kept t long =
             nothing-kept long ∙ sym (by-head ∙ rw (eq-eqb (h .seid .0) (n .seid .0) same, channelled, t))
 
-        settings-kept : settingsRight (n .caps) (n .kind) (h .far) (part 8 (h .length) r) (h .delay)
+        settings-kept : settingsRight (n .caps) (n .kind) (h .far) (part headRoom (h .length) r) (h .delay)
           ≡ keepsSettings n (endpointIn r)
         unfolding settingsRight keepsSettings delayRight takesDelay endpointIn loaded part
         settings-kept = rw e
 
         pub other-kept : isIdle (h .state) ≡ false
-          → settingsRight (n .caps) (n .kind) (h .far) (part 8 (h .length) r) (h .delay) ≡ recordLegal n r
+          → settingsRight (n .caps) (n .kind) (h .far) (part headRoom (h .length) r) (h .delay) ≡ recordLegal n r
         other-kept f = settings-kept ∙ sym (by-head ∙ rw (eq-eqb (h .seid .0) (n .seid .0) same, channelled, f))
 
 -- ---- The first record and those behind it

@@ -3,12 +3,13 @@
 use Prim.Native.Nat.{ℕ, _+_}
 use mathlib.Core.List.{List}
 use mathlib.Core.Bool.{Bool, not, _&&_, _||_}
-use lib.Dec.{leb}
+use lib.ListN.{getD}
+use lib.Dec.{leb, eqb}
 use Rattle.rules.specs.Octets.{if_then_else_}
 use Rattle.rules.specs.Elements.{items, has, couldStore}
 use Rattle.rules.specs.Book.{Entry, Book, isSource}
 use Rattle.rules.specs.Endpoints.{isReported, farRight, isAwaited, legalEnd, legalEnds, awaiting, legalGathering}
-use Rattle.rules.specs.Saved.{channelIn, endpointIn, recordRight, endsIn, recordsRight, gatheringIn, gatheringOctetsRight}
+use Rattle.rules.specs.Saved.{configRoom, channelIn, endpointIn, recordRight, endsIn, recordsRight, gatheringIn, gatheringOctetsRight}
 use Rattle.rules.specs.declared.FarSeid.{FarSeid}
 use Rattle.rules.specs.declared.Delay.{Delay}
 
@@ -20,6 +21,13 @@ settingsRight caps kind far config delay =
 -- the channels that a record awaits, by its octet for the channel
 unfoldable pub awaitsIn : ℕ → ℕ
 awaitsIn o = if isAwaited (channelIn o) then 1 else 0
+
+-- the octets of a head that have a use
+unfoldable pub usedRight : List ℕ → Bool
+usedRight r =
+    leb (getD r 1 0) 5 && leb (getD r 2 0) 2
+    && (eqb (getD r 4 0) 1 || (eqb (getD r 4 0) 0 && eqb (getD r 5 0) 0 && eqb (getD r 6 0) 0))
+    && leb (getD r 7 0) configRoom
 
 unfoldable pub recordLegal : Entry → List ℕ → Bool
 recordLegal n r = recordRight r && legalEnd n (endpointIn r)

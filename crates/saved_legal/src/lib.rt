@@ -1,10 +1,15 @@
 // Whether a saved connection is one that the host may hand over, for octets of any length: number 12 where not. One pass over the
-// book and the records.
+// book and the records, of which there must be as many.
 mod settings;
 mod records;
 mod rooms;
 
 use book::places::count;
+use rules::layout::RECORD;
+use rules::layout::RECORDS;
+use saved::parts::count_in;
+use saved::parts::link_of;
+use saved::parts::records_of;
 
 ghost use mathlib.Core.Path.{_≡_};
 ghost use Rattle.rules.specs.Book.{bookNumber, bookOf};
@@ -14,12 +19,15 @@ pub fn saved_right(book: &[u8], saved: &[u8]) -> bool
     requires { ⌜ bookNumber (now book) ≡ 0 ⌝ }
     ensures { λ r. ⌜ r ≡ savedRight (bookOf (now (book .entry))) (now (saved .entry)) ⌝ }
 {
-    let size = saved.len();
-    if size < 520 + count(book) * 80 {
+    let entries = count(book);
+    if saved.len() < RECORDS + entries * RECORD {
         return false;
     }
-    if !rooms::room_legal(octets::part(saved, 0, 520)) {
+    if count_in(saved) as usize != entries {
         return false;
     }
-    records::records_legal(book, octets::part(saved, 520, size - 520))
+    if !rooms::room_legal(link_of(saved)) {
+        return false;
+    }
+    records::records_legal(book, records_of(saved))
 }

@@ -5,6 +5,16 @@ use book::places::count;
 use rules::Channel;
 use rules::OurSeid;
 use rules::State;
+use rules::layout::CHANNEL;
+use rules::layout::CONFIG;
+use rules::layout::CONFIG_LENGTH;
+use rules::layout::DELAY_HIGH;
+use rules::layout::DELAY_LOW;
+use rules::layout::DELAY_MARK;
+use rules::layout::HEAD;
+use rules::layout::RECORD;
+use rules::layout::STATE;
+use rules::layout::UNUSED;
 use saved::records::load;
 use saved_states::is_absent;
 use saved_states::is_idle;
@@ -18,7 +28,7 @@ ghost use lib.Dec.{eqb};
 ghost use Rattle.rules.specs.Book.{bookNumber, bookOf};
 ghost use Rattle.rules.specs.Endpoints.{channelRight};
 ghost use Rattle.rules.specs.Saved.{recordRoom, recordRight};
-ghost use Rattle.saved_legal.specs.Legal.{awaitsIn, recordLegal, recordsLegal};
+ghost use Rattle.saved_legal.specs.Legal.{usedRight, awaitsIn, recordLegal, recordsLegal};
 
 fn channel_right(state: State, channel: Channel) -> bool
     ensures { λ r. ⌜ r ≡ channelRight state channel ⌝ }
@@ -49,21 +59,33 @@ fn delay_octets_right(mark: u8, high: u8, low: u8) -> bool
     low == 0
 }
 
+// Whether a stored record could have these octets in its head where they have a use.
+fn used_right(slot: &[u8]) -> bool
+    requires { ⌜ length (now slot) ≡ recordRoom ⌝ }
+    ensures { λ r. ⌜ r ≡ usedRight (now (slot .entry)) ⌝ }
+{
+    if 5 < slot[STATE] {
+        return false;
+    }
+    if 2 < slot[CHANNEL] {
+        return false;
+    }
+    if !delay_octets_right(slot[DELAY_MARK], slot[DELAY_HIGH], slot[DELAY_LOW]) {
+        return false;
+    }
+    slot[CONFIG_LENGTH] as usize <= CONFIG
+}
+
 // Whether a stored record could have these octets.
 fn octets_right(slot: &[u8]) -> bool
     requires { ⌜ length (now slot) ≡ recordRoom ⌝ }
     ensures { λ r. ⌜ r ≡ recordRight (now (slot .entry)) ⌝ }
 {
-    if 5 < slot[1] {
+    if !used_right(slot) {
         return false;
     }
-    if 2 < slot[2] {
-        return false;
-    }
-    if !delay_octets_right(slot[4], slot[5], slot[6]) {
-        return false;
-    }
-    slot[7] <= 64
+    let unused = [0u8; HEAD - UNUSED];
+    octets::same(octets::part(slot, UNUSED, HEAD - UNUSED), &unused)
 }
 
 // How many channels a record awaits whose octet for the channel this is.
@@ -96,7 +118,7 @@ fn record_legal(seid: OurSeid, kind: u8, caps: &[u8], slot: &[u8]) -> bool
     if is_idle(state) {
         keeps_nothing(far, length, delay)
     } else {
-        keeps_settings(caps, kind, far, octets::part(slot, 8, length as usize), delay)
+        keeps_settings(caps, kind, far, octets::part(slot, HEAD, length as usize), delay)
     }
 }
 
@@ -113,11 +135,11 @@ pub fn records_legal(book: &[u8], records: &[u8]) -> bool
     while index < entries {
         let size = book[at + 2] as usize;
         let from = at + 3;
-        let slot = octets::part(records, index * 80, 80);
+        let slot = octets::part(records, index * RECORD, RECORD);
         if !record_legal(OurSeid(book[at]), book[at + 1], octets::part(book, from, size), slot) {
             return false;
         }
-        awaited += awaits(slot[2]);
+        awaited += awaits(slot[CHANNEL]);
         at = from + size;
         index += 1;
     }

@@ -1,76 +1,47 @@
--- `octets_right` meets its contract: its tests are those of `recordRight`, one by one.
+-- `octets_right` meets its contract: the octets with a use, then those without.
 use borrow.Author.Needs.{needs}
-use borrow.Author.Tests.{le-leb, lt-leb, not-true, not-false}
+use borrow.Author.Tests.{not-true, not-false}
 use mathlib.Core.Path.{sym, _∙_}
-use lib.ListN.{getD}
-use Rattle.rules.specs.Saved.{recordRight}
+use Rattle.saved_legal.proofs.EachRecord.{used-wrong, unused-decide}
 use Rattle.saved_legal.proofs.records.octets_right.Statement.{statement}
 use Rattle.saved_legal.proofs.records.octets_right.Tie as tie
 
-shared-slice-read-if1 : tie.Need-shared-slice-read-if1
-shared-slice-read-if1 c = search needs
+used-right-requires : tie.Need-used-right-requires
+used-right-requires c κs = search needs
 
 returns : tie.Need-returns
-unfolding recordRight
-returns c = rw (lt-leb (getD (c .before .before .before .args .slot .now) 1 0) 5 (c .if1 .taken))
+returns c =
+    used-wrong (c .before .before .before .args .slot .now)
+      (sym (c .before .used-right .ensures) ∙ not-true _ (c .if1 .taken))
 
-shared-slice-read-if2 : tie.Need-shared-slice-read-if2
-shared-slice-read-if2 c = search needs
+sub-part : tie.Need-sub-part
+sub-part c = search needs
+
+part-requires : tie.Need-part-requires
+part-requires c κs = search needs
+
+slice-aggregate-same : tie.Need-slice-aggregate-same
+slice-aggregate-same c = search needs
+
+same-requires : tie.Need-same-requires
+same-requires c κs = search needs
 
 returns-2 : tie.Need-returns-2
-unfolding recordRight
 returns-2 c =
-    let stated = c .before .before in
-    let slot = stated .before .before .before .args .slot .now in
-    rw (le-leb (getD slot 1 0) 5 (stated .if1 .left), lt-leb (getD slot 2 0) 2 (c .if2 .taken))
-
-shared-slice-read-delay-octets-right : tie.Need-shared-slice-read-delay-octets-right
-shared-slice-read-delay-octets-right c = search needs
-
-shared-slice-read-delay-octets-right-2 : tie.Need-shared-slice-read-delay-octets-right-2
-shared-slice-read-delay-octets-right-2 c = search needs
-
-shared-slice-read-delay-octets-right-3 : tie.Need-shared-slice-read-delay-octets-right-3
-shared-slice-read-delay-octets-right-3 c = search needs
-
-delay-octets-right-requires : tie.Need-delay-octets-right-requires
-delay-octets-right-requires c κs = search needs
-
-returns-3 : tie.Need-returns-3
-unfolding recordRight
-returns-3 c =
-    let delayed = c .before in
-    let channelled = delayed .before .before .before .before in
-    let stated = channelled .before .before in
-    let slot = stated .before .before .before .args .slot .now in
-    rw (le-leb (getD slot 1 0) 5 (stated .if1 .left), le-leb (getD slot 2 0) 2 (channelled .if2 .left),
-      sym (delayed .delay-octets-right .ensures) ∙ not-true _ (c .if3 .taken))
-
-shared-slice-read-result : tie.Need-shared-slice-read-result
-shared-slice-read-result c = search needs
-
-returns-4 : tie.Need-returns-4
-unfolding recordRight
-returns-4 c =
-    let delayed = c .before .before in
-    let channelled = delayed .before .before .before .before in
-    let stated = channelled .before .before in
-    let slot = stated .before .before .before .args .slot .now in
-    rw (le-leb (getD slot 1 0) 5 (stated .if1 .left), le-leb (getD slot 2 0) 2 (channelled .if2 .left),
-      sym (delayed .delay-octets-right .ensures) ∙ not-false _ (c .before .if3 .left))
+    let part = c .before .before in
+    let used = part .before in
+    c .same .ensures
+    ∙ unused-decide (used .before .before .before .args .slot .now) _ (part .part .ensures)
+        (sym (used .before .used-right .ensures) ∙ not-false _ (used .if1 .left))
 
 pub octets-right-spec : {M : Type 1} → statement M
 octets-right-spec =
     tie.close
     (tie.spec
-    shared-slice-read-if1
+    used-right-requires
     returns
-    shared-slice-read-if2
-    returns-2
-    shared-slice-read-delay-octets-right
-    shared-slice-read-delay-octets-right-2
-    shared-slice-read-delay-octets-right-3
-    delay-octets-right-requires
-    returns-3
-    shared-slice-read-result
-    returns-4)
+    sub-part
+    part-requires
+    slice-aggregate-same
+    same-requires
+    returns-2)

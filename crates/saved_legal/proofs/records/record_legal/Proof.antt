@@ -9,7 +9,7 @@ use mathlib.Core.Bool.{true}
 use lib.ListN.{length}
 use Rattle.rules.specs.Book.{Entry}
 use Rattle.rules.specs.Endpoints.{channelRight}
-use Rattle.rules.specs.Saved.{recordRight}
+use Rattle.rules.specs.Saved.{headRoom, recordRight}
 use Rattle.saved_legal.specs.Legal.{settingsRight}
 use Rattle.saved_legal.proofs.EachRecord.{octets-wrong, seid-wrong, channel-wrong, idle-kept, other-kept, config-short}
 use Rattle.saved_legal.proofs.EachRecord.{part-short}
@@ -85,7 +85,7 @@ keeps-settings-requires c κs =
     let start = loaded .before .before .before .before .before in
     ( start .pre .0,
       subst (λ (x : List _). length x ≤ 64) (sym (c .part .ensures))
-        (part-short 8 (loaded .load .result .length) (start .args .slot .now) (short loaded)))
+        (part-short headRoom (loaded .load .result .length) (start .args .slot .now) (short loaded)))
 
 returns-4 : tie.Need-returns-4
 returns-4 c =
