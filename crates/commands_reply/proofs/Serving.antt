@@ -9,7 +9,7 @@ use Rattle.rules.specs.Octets.{front}
 use Rattle.rules.specs.Book.{Entry, Book, bookOf, unknown, known, find}
 use Rattle.rules.specs.Walks.{placeIn, foundBy}
 use Rattle.rules.specs.Endpoints.{Endpoint, Ends, endAt, legalEnd}
-use Rattle.rules.specs.Saved.{endsIn, storeEnds, recordRoom}
+use Rattle.rules.specs.Saved.{recordRoom, configRoom, endsIn, storeEnds}
 use Rattle.rules.specs.Commands.{Reply, accept, Outcome, stays, moves, ourIn, foundOr, atEndpoint}
 use Rattle.rules.specs.Host.{payloadOf}
 use Rattle.rules.specs.Answers.{saidOf, did}
@@ -20,10 +20,10 @@ use Rattle.rules.proofs.Places.{legal-at}
 use Rattle.rules.proofs.ShortReplies.{end-short}
 use Rattle.rules.proofs.SavedReads.{ends-kept}
 use Rattle.book.proofs.Found.{entryBy, found-as, Placed, placed as placed-in}
-use Rattle.saved.specs.Records.{loaded, endpointOf, recordAt, configAt}
+use Rattle.saved.specs.Records.{loaded, endpointOf, recordAt, configSizeAt, configAt}
 use Rattle.saved.specs.Held.{Held}
 use Rattle.saved.specs.Serves.{Serves}
-use Rattle.saved.proofs.OneStore.{loaded-one, record-inside}
+use Rattle.saved.proofs.OneStore.{loaded-one, record-inside, length-told}
 use Rattle.commands_reply.specs.Obeys.{endsOf, Obeys}
 
 -- ---- What an outcome makes of the areas
@@ -61,6 +61,7 @@ pub record Meets (s : OurSeid) (book records : List ℕ) (i kind from size : ℕ
   pub placed : Placed s book i kind from size
   pub found : find s (bookOf book) ≡ known i (entryBy s book kind from size)
   pub inside : (i + 1) * recordRoom ≤ length records
+  pub told : configSizeAt i records ≤ configRoom
   pub shows : endAt (endsOf book records) i ≡ endpointOf (loaded (recordAt i records)) (configAt i records)
   pub lawful : legalEnd (entryBy s book kind from size) (endAt (endsOf book records) i) ≡ true
 
@@ -74,6 +75,7 @@ meets s book records payload reply i kind from size serves e =
       placed = p;
       found = found-as s book (Known i kind from size) e;
       inside = record-inside n i records (p .counted) (serves .held);
+      told = length-told n i records (p .counted) (serves .held);
       shows = loaded-one n i records (p .counted);
       lawful = legal-at (p .place) (endsIn n records) (serves .lawful)
     }

@@ -12,7 +12,7 @@ use Rattle.rules.specs.Elements.{items, reconfiguring, faultIn, firstFault, res
 use Rattle.rules.specs.Book.{Entry, bookOf}
 use Rattle.rules.specs.Walks.{noMarks, marksFrom, judge, walkOf, settingOf}
 use Rattle.rules.specs.Endpoints.{Endpoint, Ends, isIdle, withConfig, endAt}
-use Rattle.rules.specs.Saved.{recordRoom}
+use Rattle.rules.specs.Saved.{recordRoom, configRoom}
 use Rattle.rules.specs.Commands.{accept, stays, moves, rejectElement, isOpen, reconfigureAt, reconfigure}
 use Rattle.rules.specs.Answers.{saidOf}
 use Rattle.rules.specs.declared.Said.{Said}
@@ -27,11 +27,11 @@ use Rattle.octets.proofs.Patches.{part-patch}
 use Rattle.elements.proofs.Judging.{walk-begun, walk-clean}
 use Rattle.elements_stored.specs.Stores.{markedStore, MarksFit}
 use Rattle.elements_stored.proofs.Stores.{Stores, could-setting, again-stores}
-use Rattle.saved.specs.Records.{loaded, endpointOf, recordAt, configAt}
+use Rattle.saved.specs.Records.{loaded, endpointOf, recordAt, configSizeAt, configAt}
 use Rattle.saved.specs.Moved.{reconfiguredHead}
 use Rattle.saved.specs.Serves.{Serves}
 use Rattle.saved.specs.declared.records.Endpoint.{Endpoint as Head}
-use Rattle.saved.proofs.Configs.{config-told, config-length}
+use Rattle.saved.proofs.Configs.{config-length}
 use Rattle.commands_reply.specs.Obeys.{endsOf, Obeys}
 use Rattle.commands_set.specs.Kept.{Names, Renews, keptOctets}
 use Rattle.commands_set.proofs.Doings.{answered, fault-answered, Refuses, refused, moved, entry, met, few, there}
@@ -47,13 +47,14 @@ module _ {caps records payload : List ℕ} {i : ℕ} {h : Head} {m : Marks} (r :
   config-short = le-trans (could-short caps (configAt i records) (r .could)) (r .few)
 
   -- what is asked where the configuration is read
-  pub renew-reads : ((i + 1) * recordRoom ≤ length records) × (length (configAt i records) ≤ 64)
-  renew-reads = (r .inside, config-short)
+  pub renew-reads : ((i + 1) * recordRoom ≤ length records) × (configSizeAt i records ≤ configRoom)
+  renew-reads = (r .inside, r .told)
 
   size-told : h .length ≡ length (configAt i records)
+  unfolding loaded
   size-told =
       ap (λ (x : Head). x .length) (r .head)
-      ∙ sym (config-length i records (r .inside) (config-told i records (r .inside) config-short))
+      ∙ sym (config-length i records (r .inside) (r .told))
 
   -- the length fits the copy
   pub size-short : h .length ≤ 64
@@ -161,6 +162,7 @@ module _ {book records payload reply : List ℕ} {i from size : ℕ} (serves : S
         (record {
           inside = met serves names .inside;
           head = here;
+          told = met serves names .told;
           could =
             subst (λ (l : List ℕ). couldStore (items offers) l ≡ true) config-here
               (keeps-config (entry serves names) it settings);

@@ -13,7 +13,7 @@ use Rattle.rules.specs.Elements.{Fault}
 use Rattle.rules.specs.Book.{Entry, Book, bookOf}
 use Rattle.rules.specs.Walks.{walkedAs, placeIn}
 use Rattle.rules.specs.Endpoints.{Endpoint, Ends, endAt}
-use Rattle.rules.specs.Saved.{recordRoom}
+use Rattle.rules.specs.Saved.{recordRoom, headRoom}
 use Rattle.rules.specs.Commands.{accept, reject, Outcome, stays, moves, rejectElement, ourIn, atEndpoint}
 use Rattle.rules.specs.Host.{payloadOf}
 use Rattle.rules.specs.Answers.{saidOf}
@@ -91,7 +91,7 @@ module _ (command : Book → Ends → List ℕ → Outcome) {book records payloa
 -- ---- The configuration, and then the head before it
 
 pub kept-by : (i : ℕ) (h h′ : Head) (config l b b′ : List ℕ) (n : ℕ) → (i + 1) * recordRoom ≤ length l → length config ≤ 64
-  → (b ≡ patch (i * 80 + 8) config l) × (n ≡ length config) → h′ ≡ reconfiguredHead n h
+  → (b ≡ patch (i * recordRoom + headRoom) config l) × (n ≡ length config) → h′ ≡ reconfiguredHead n h
   → b′ ≡ patch (i * recordRoom) (headOctets h′) b
   → b′ ≡ patch (i * recordRoom) (keptOctets h config) l
 unfolding keptOctets headOctets
@@ -100,7 +100,7 @@ kept-by i h h′ config l b b′ n inside short wrote same set =
     set
     ∙ ap (λ (x : Head). patch (i * recordRoom) (headOctets x) b) same
     ∙ (λ j. patch (i * recordRoom) (headOctets (reconfiguredHead (wrote .1 j) h)) (wrote .0 j))
-    ∙ sym (patch-comm (i * recordRoom) octets (i * 80 + 8) config l (omega arith) (omega arith))
+    ∙ sym (patch-comm (i * recordRoom) octets (i * recordRoom + headRoom) config l (omega arith) (omega arith))
     ∙ patch-append (i * recordRoom) octets config l (omega arith)
 
 -- ---- A payload that is too short, or names no endpoint

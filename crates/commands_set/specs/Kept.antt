@@ -6,13 +6,13 @@ use mathlib.Core.Bool.{true}
 use lib.ListN.{length, getD}
 use Rattle.rules.specs.Elements.{items, couldStore}
 use Rattle.rules.specs.Walks.{noMarks, walkOf, placeIn}
-use Rattle.rules.specs.Saved.{recordRoom}
+use Rattle.rules.specs.Saved.{recordRoom, configRoom}
 use Rattle.rules.specs.Commands.{ourIn}
 use Rattle.rules.specs.declared.Marks.{Marks}
 use Rattle.rules.specs.declared.Rule.the-variants.{Reconfiguring}
 use Rattle.rules.specs.declared.Walked.the-variants.{Clean}
 use Rattle.rules.specs.declared.Place.the-variants.{Known}
-use Rattle.saved.specs.Records.{loaded, headOctets, recordAt, configAt}
+use Rattle.saved.specs.Records.{loaded, headOctets, recordAt, configSizeAt, configAt}
 use Rattle.saved.specs.Moved.{reconfiguredHead}
 use Rattle.saved.specs.declared.records.Endpoint.{Endpoint as Head}
 
@@ -30,6 +30,7 @@ keptOctets h config = headOctets (reconfiguredHead (length config) h) ++ config
 pub record Renews (caps records payload : List ℕ) (i : ℕ) (h : Head) (m : Marks) : Type 0 where
   pub inside : (i + 1) * recordRoom ≤ length records
   pub head : h ≡ loaded (recordAt i records)
+  pub told : configSizeAt i records ≤ configRoom
   pub could : couldStore (items caps) (configAt i records) ≡ true
   pub few : length caps ≤ 64
   pub clean : walkOf Reconfiguring (items caps) payload 1 noMarks ≡ Clean m

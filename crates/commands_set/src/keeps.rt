@@ -1,6 +1,8 @@
 // A configuration written into its endpoint's record, once, with the head that tells its length.
 use elements_stored::config::store;
 use rules::Marks;
+use rules::layout::HEAD;
+use rules::layout::RECORD;
 use saved::moves::reconfigured;
 use saved::records::set;
 use saved::records::Endpoint;
@@ -21,6 +23,6 @@ pub fn keep(records: &mut [u8], index: usize, head: Endpoint, new: &[u8], fresh:
       ≡ patch (index * recordRoom) (keptOctets head (markedStore (now (new .entry)) fresh (now (old .entry)) left))
           (now (records .entry)) ⌝ }
 {
-    let length = store(records, index * 80 + 8, new, fresh, old, left);
+    let length = store(records, index * RECORD + HEAD, new, fresh, old, left);
     set(records, index, reconfigured(head, length as u8));
 }

@@ -2,6 +2,8 @@
 use commands_show::meets::Met;
 use commands_show::meets::meet;
 use rules::Said;
+use rules::layout::CHANNEL;
+use rules::layout::RECORD;
 use saved::moves::opened;
 use saved::records::get;
 use saved::records::set;
@@ -24,7 +26,7 @@ fn none_awaits(records: &[u8], count: usize) -> bool
 {
     let mut i = 0;
     while i < count {
-        if records[i * 80 + 2] == 1 {
+        if records[i * RECORD + CHANNEL] == 1 {
             return false;
         }
         i += 1;

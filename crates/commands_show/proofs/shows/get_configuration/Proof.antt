@@ -67,7 +67,7 @@ is-set-requires c κs = search needs
 
 config-requires : tie.Need-config-requires
 config-requires c κs =
-    let m = meets-at (c .before .before .before .before .before) in (m .inside, config-short m)
+    let m = meets-at (c .before .before .before .before .before) in (m .inside, m .told)
 
 accepted-with-requires : tie.Need-accepted-with-requires
 accepted-with-requires c κs =

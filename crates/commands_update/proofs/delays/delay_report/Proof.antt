@@ -20,7 +20,7 @@ use Rattle.book.proofs.Found.{entryBy}
 use Rattle.saved.specs.declared.records.Endpoint.{Endpoint as Head}
 use Rattle.saved.specs.Moved.{delayedHead}
 use Rattle.saved.specs.Records.{loaded, endpointOf, recordAt, configAt}
-use Rattle.commands_reply.proofs.Serving.{Meets, config-short}
+use Rattle.commands_reply.proofs.Serving.{Meets}
 use Rattle.commands_show.proofs.Meeting.{exactly, right-here, meets-here, says-code, did-refuse, did-answer}
 use Rattle.commands_update.proofs.Moving.{did-moved}
 use Rattle.commands_update.proofs.delays.delay_report.Statement.{statement}
@@ -122,7 +122,7 @@ returns c =
 
 config-requires : tie.Need-config-requires
 config-requires c κs =
-    let m = meets-at (c .before .before .before .before .before .before) in (m .inside, config-short m)
+    let m = meets-at (c .before .before .before .before .before .before) in (m .inside, m .told)
 
 takes-delay-requires : tie.Need-takes-delay-requires
 takes-delay-requires c κs = search needs
