@@ -10,7 +10,7 @@ use Rattle.rules.specs.Octets.{if_then_else_, isEmpty}
 use Rattle.rules.specs.Book.{bookOf}
 use Rattle.rules.specs.Walks.{placeIn, foundBy}
 use Rattle.rules.specs.Endpoints.{Endpoint, endAt}
-use Rattle.rules.specs.Saved.{gatheringRoom, recordRoom, endsIn, connectionIn}
+use Rattle.rules.specs.Saved.{recordsPlace, recordRoom, endsIn, connectionIn}
 use Rattle.rules.specs.Host.{refusalOf, settingsOf, Shown, shownAt, settingsCall, heard, heardAt, delayCall}
 use Rattle.rules.specs.Answers.{heardBy}
 use Rattle.rules.specs.declared.OurSeid.{OurSeid}
@@ -58,13 +58,13 @@ module _ (book saved : List ℕ) (s : OurSeid) where
         ≡ record {
             number = 0;
             part =
-              settingsOf (entryBy s book kind from size) (endAt (endsIn (length (bookOf book)) (drop gatheringRoom saved)) i)
+              settingsOf (entryBy s book kind from size) (endAt (endsIn (length (bookOf book)) (recordsOf saved)) i)
           }
     unfolding settingsCall shownAt foundBy connectionIn
     there-shown i kind from size e = rw (calm .allowed, found-as s book (Known i kind from size) e)
 
     there-heard : (i kind from size : ℕ) → placeIn s book ≡ Known i kind from size
-      → delayCall book saved s ≡ heard 0 (endAt (endsIn (length (bookOf book)) (drop gatheringRoom saved)) i .delay)
+      → delayCall book saved s ≡ heard 0 (endAt (endsIn (length (bookOf book)) (recordsOf saved)) i .delay)
     unfolding delayCall heardAt foundBy connectionIn
     there-heard i kind from size e = rw (calm .allowed, found-as s book (Known i kind from size) e)
 
@@ -72,26 +72,26 @@ module _ (book saved : List ℕ) (s : OurSeid) where
 
     module _ (i kind from size : ℕ) (there : placeIn s book ≡ Known i kind from size) where
       abbrev records : List ℕ
-      records = take (length saved - 520) (drop 520 saved)
+      records = take (length saved - recordsPlace) (drop recordsPlace saved)
 
       place : Placed s book i kind from size
       place = placed s book i kind from size (calm .numbered) there
 
-      shows : endAt (endsIn (length (bookOf book)) (drop gatheringRoom saved)) i
+      shows : endAt (endsIn (length (bookOf book)) (recordsOf saved)) i
         ≡ endpointOf (loaded (recordAt i records)) (configAt i records)
       shows =
-          loaded-one (length (bookOf book)) i (drop gatheringRoom saved) (place .counted)
-          ∙ ap (λ (l : List ℕ). endpointOf (loaded (recordAt i l)) (configAt i l)) (sym (behind-whole 520 saved))
+          loaded-one (length (bookOf book)) i (recordsOf saved) (place .counted)
+          ∙ ap (λ (l : List ℕ). endpointOf (loaded (recordAt i l)) (configAt i l)) (sym (behind-whole recordsPlace saved))
 
       pub record-there : (i + 1) * recordRoom ≤ length records
       record-there =
-          has-room (length (bookOf book)) i (drop gatheringRoom saved) records (place .counted) (calm .inside .held)
-            (behind-whole 520 saved)
+          has-room (length (bookOf book)) i (recordsOf saved) records (place .counted) (calm .inside .held)
+            (behind-whole recordsPlace saved)
 
       pub config-fits : length (configAt i records) ≤ 64
       unfolding endpointOf
       config-fits =
-          let ends = endsIn (length (bookOf book)) (drop gatheringRoom saved) in
+          let ends = endsIn (length (bookOf book)) (recordsOf saved) in
           rw shows at
             (end-short (entryBy s book kind from size) (endAt ends i) (place .right)
               (legal-at (place .place) ends (calm .inside .lawful)))

@@ -11,7 +11,7 @@ use borrow.Author.Tests.{lt-ltb, le-ltb, ltb-false, eq-eqb, ne-eqb}
 use Rattle.rules.specs.Octets.{if_then_else_, octetsIn}
 use Rattle.rules.specs.Book.{bookNumber, bookOf}
 use Rattle.rules.specs.Packets.{sizeRight}
-use Rattle.rules.specs.Saved.{gatheringRoom, areaFor, savedRight}
+use Rattle.rules.specs.Saved.{recordsPlace, areaFor, savedRight}
 use Rattle.rules.specs.Host.{numberOr, savedNumber, refusalOf, packetRefusal, Told, nothingSaid, Answered, packetCall}
 use Rattle.rules.proofs.SavedReads.{octets-known}
 use Rattle.rules.proofs.SavedStaysRight.{right-long}
@@ -71,7 +71,8 @@ pub record Calm (book saved : List ℕ) : Type 0 where
   pub allowed : refusalOf book saved ≡ 0
   pub numbered : bookNumber book ≡ 0
   pub octets : octetsIn saved ≡ true
-  pub long : gatheringRoom ≤ length saved
+  pub lawful : savedRight (bookOf book) saved ≡ true
+  pub long : recordsPlace ≤ length saved
   pub inside : Right book saved
 
 pub calm : (book saved : List ℕ) (n : ℕ) → ((i : ℕ) → getD saved i 0 < 256) → n ≡ refusalOf book saved → n ≡ 0
@@ -85,6 +86,7 @@ calm book saved n known e zeroed =
       allowed = allowed;
       numbered = both .0;
       octets = octets;
+      lawful = both .1;
       long = omega (arith, right-long (bookOf book) saved (both .1));
       inside = right-saved book saved octets (both .1)
     }

@@ -11,6 +11,10 @@ use rules::OurSeid;
 use rules::Piece;
 use rules::Place;
 use rules::Told;
+use rules::layout::COUNT;
+use rules::layout::RECORD;
+use rules::layout::RECORDS;
+use saved::parts::records_of;
 
 ghost use mathlib.Core.Path.{_≡_};
 ghost use Rattle.rules.specs.Host.{checkCall, settingsCall, packetsCall};
@@ -31,11 +35,13 @@ pub fn fresh(book: &[u8], saved: &mut [u8]) -> u8
     if number != 0 {
         return number;
     }
-    if saved.len() < 520 + book::places::count(book) * 80 {
+    let entries = book::places::count(book);
+    if saved.len() < RECORDS + entries * RECORD {
         return 12;
     }
-    saved_fresh::begin(book, &mut saved[520..]);
-    saved[0] = 0;
+    saved_fresh::begin(book, &mut saved[RECORDS..]);
+    saved[0] = entries as u8;
+    saved[COUNT] = 0;
     0
 }
 
@@ -60,11 +66,11 @@ pub fn event(book: &[u8], saved: &mut [u8], event: Event) -> u8
         return number;
     }
     match event {
-        Event::Up => saved_events::up(&mut saved[520..], book::places::count(book)),
-        Event::Down(seid) => saved_events::down(book, &mut saved[520..], seid),
+        Event::Up => saved_events::up(&mut saved[RECORDS..], book::places::count(book)),
+        Event::Down(seid) => saved_events::down(book, &mut saved[RECORDS..], seid),
         Event::Lost => {
-            saved_events::lost(&mut saved[520..], book::places::count(book));
-            saved[0] = 0;
+            saved_events::lost(&mut saved[RECORDS..], book::places::count(book));
+            saved[COUNT] = 0;
             0
         }
     }
@@ -87,7 +93,7 @@ pub fn settings<'a>(book: &'a [u8], saved: &'a [u8], seid: OurSeid) -> &'a [u8]
             from,
             size,
         } => {
-            let config = saved::records::config(&saved[520..], index);
+            let config = saved::records::config(records_of(saved), index);
             if config.len() == 0 {
                 octets::part(book, from, size)
             } else {
@@ -134,7 +140,7 @@ pub fn delay(book: &[u8], saved: &[u8], seid: OurSeid) -> Heard
             from: _,
             size: _,
         } => {
-            let e = saved::records::get(&saved[520..], index);
+            let e = saved::records::get(records_of(saved), index);
             let delay = e.delay;
             delays::heard(0, delay)
         }

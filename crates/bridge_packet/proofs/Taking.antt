@@ -2,39 +2,44 @@
 -- moves are stored side by side, as the definition of the call stores them at once.
 use Prim.Native.Nat.{ℕ, _+_, _≤_}
 use mathlib.Core.Path.{_≡_, sym, ap, subst, _∙_}
-use mathlib.Core.List.{List, _++_}
+use mathlib.Core.List.{List, _∷_, _++_}
 use mathlib.Core.Bool.{true}
 use mathlib.Core.Option.{Option, none, some}
 use native.Mathlib.Omega.{arith}
 use lib.ListN.{length, take, drop, length-append}
-use lib.Seq.{take-at, drop-at}
+use lib.Seq.{take-suc}
 use Rattle.rules.specs.Octets.{front, octetsIn}
 use Rattle.rules.specs.Book.{bookOf}
 use Rattle.rules.specs.Packets.{Message, gather}
 use Rattle.rules.specs.Endpoints.{Ends}
-use Rattle.rules.specs.Saved.{gatheringRoom, gatheringAt, gatheringIn, endsIn, connectionIn, store}
+use Rattle.rules.specs.Saved.{recordsPlace, areaFor, countIn, linkOf, recordsOf, gatheringAt, gatheringIn, endsIn, connectionIn, store}
 use Rattle.rules.specs.Host.{Told, nothingSaid, turnOf, takes, Answered}
 use Rattle.rules.specs.Wires.{nextOf}
 use Rattle.rules.specs.declared.Next.the-variants.{Single, Complete}
-use Rattle.rules.proofs.SavedReads.{ends-kept}
+use Rattle.rules.proofs.SavedReads.{ends-kept, length-endsIn}
 use Rattle.rules.proofs.Refused.{nothing-written}
+use Rattle.rules.proofs.Places.{legal-length}
+use Rattle.rules.proofs.StaysLegal.{legal-ends, takes-legal}
+use Rattle.rules.proofs.SavedStaysRight.{right-legal}
+use Rattle.rules.specs.Commands.{answer}
 use Rattle.saved.specs.Serves.{Serves}
 use Rattle.packets_gather.specs.Rooms.{RoomRight}
 use Rattle.packets_gather.proofs.Rooms.{room-kept}
 use Rattle.packets_gather.proofs.Steps.{Singles, room-told}
 use Rattle.packets_gather.proofs.Done.{roomAfter, Assembled, assembled}
 use Rattle.saved_legal.proofs.RightSaved.{Right, right-saved, serves}
-use Rattle.bridge_packet.specs.Taken.{Takes, Joins, joined, areaAfter, served, taken}
+use Rattle.bridge_packet.specs.Taken.{Takes, Joins, withLink, joined, areaAfter, served, taken}
+use Rattle.bridge_packet.proofs.Halves.{link-with, front-with, records-with, long-with}
 
 abbrev pub answered : Told → List ℕ → List ℕ → Answered
 answered told saved reply = record { told = told; saved = saved; reply = reply }
 
 module _ (book : List ℕ) (size : ℕ) (saved p reply : List ℕ) (may : Takes book saved reply) (octets : octetsIn saved ≡ true) where
   abbrev room : List ℕ
-  room = take gatheringRoom saved
+  room = linkOf saved
 
   abbrev records : List ℕ
-  records = drop gatheringRoom saved
+  records = recordsOf saved
 
   abbrev ends : Ends
   ends = endsIn (length (bookOf book)) records
@@ -48,21 +53,42 @@ module _ (book : List ℕ) (size : ℕ) (saved p reply : List ℕ) (may : Takes 
   kept : RoomRight (roomAfter size room p)
   kept = room-kept size room p room-right
 
-  -- the two halves behind the gathering
-  after-room : take gatheringRoom (areaAfter size saved p) ≡ roomAfter size room p
-  unfolding areaAfter
-  after-room = take-at (roomAfter size room p) records gatheringRoom (kept .long)
+  pub long : recordsPlace ≤ length saved
+  unfolding areaFor
+  long = omega (arith, right .area)
 
-  after-records : drop gatheringRoom (areaAfter size saved p) ≡ records
+  -- the parts after the gathering
+  after-room : linkOf (areaAfter size saved p) ≡ roomAfter size room p
   unfolding areaAfter
-  after-records = drop-at (roomAfter size room p) records gatheringRoom (kept .long)
+  after-room = link-with saved (roomAfter size room p) long (kept .long)
 
-  after-long : gatheringRoom ≤ length (areaAfter size saved p)
+  after-records : recordsOf (areaAfter size saved p) ≡ records
   unfolding areaAfter
-  after-long = let e = length-append (roomAfter size room p) records in omega (arith, kept .long)
+  after-records = records-with saved (roomAfter size room p) long (kept .long)
+
+  after-long : recordsPlace ≤ length (areaAfter size saved p)
+  unfolding areaAfter
+  after-long = long-with saved (roomAfter size room p) long (kept .long)
+
+  -- what stands before the records then, as it is stored with as many endpoints
+  after-front : (e : Ends) → length e ≡ length (bookOf book)
+    → take recordsPlace (areaAfter size saved p) ≡ length e ∷ roomAfter size room p
+  unfolding areaAfter countIn
+  after-front e counted =
+      front-with saved (roomAfter size room p) long (kept .long)
+      ∙ ap (λ (x : List ℕ). x ++ roomAfter size room p) (take-suc saved 0 0 (omega (arith, long)))
+      ∙ ap (λ (n : ℕ). n ∷ roomAfter size room p) (right .count ∙ sym counted)
+
+  -- no packet changes how many there are
+  counted : length (takes (bookOf book) size (connectionIn (length (bookOf book)) saved) p .connection .ends)
+    ≡ length (bookOf book)
+  counted =
+      let c = connectionIn (length (bookOf book)) saved in
+      let lawful = takes-legal (bookOf book) size c p (right-legal (bookOf book) saved (may .legal)) in
+      legal-length (bookOf book) _ (legal-ends (bookOf book) _ lawful .every)
 
   may-serve : (payload : List ℕ) → length payload ≤ 512
-    → Serves book (drop gatheringRoom (areaAfter size saved p)) payload reply
+    → Serves book (recordsOf (areaAfter size saved p)) payload reply
   may-serve payload short = rw after-records (serves book saved payload reply (may .right) right short (may .room))
 
   -- a message that is complete
@@ -70,7 +96,13 @@ module _ (book : List ℕ) (size : ℕ) (saved p reply : List ℕ) (may : Takes 
     → served book m (areaAfter size saved p) reply ≡ taken book size saved p reply
   unfolding served taken takes turnOf connectionIn store
   serves-it m e =
-      rw (after-room, after-records)
+      let same =
+        subst
+          (λ (d : Option Message).
+            length (turnOf (bookOf book) ends (gather size (gatheringIn room) p .gathering) d .connection .ends)
+            ≡ length (bookOf book))
+          e counted in
+      rw (after-records, after-front (answer (bookOf book) ends m .ends) same)
         (ap
           (λ (done : Option Message).
             let t = turnOf (bookOf book) ends (gather size (gatheringIn room) p .gathering) done in
@@ -80,10 +112,15 @@ module _ (book : List ℕ) (size : ℕ) (saved p reply : List ℕ) (may : Takes 
   -- and where none is
   pub nothing-done : (told : Told) (after : List ℕ) → after ≡ areaAfter size saved p → told ≡ nothingSaid 0
     → gather size (gatheringIn room) p .done ≡ none → answered told after reply ≡ taken book size saved p reply
-  unfolding areaAfter taken takes turnOf connectionIn store
+  unfolding areaAfter withLink countIn taken takes turnOf connectionIn store
   nothing-done told after g e f =
       let stored = ends-kept (length (bookOf book)) records (right .held .room) (right .held .right) (right .held .octets) in
-      (λ k. answered (e k) ((g ∙ ap (λ (x : List ℕ). roomAfter size room p ++ x) (sym stored)) k) (sym (nothing-written reply) k))
+      let first =
+        ap (λ (x : List ℕ). x ++ (roomAfter size room p ++ records)) (take-suc saved 0 0 (omega (arith, long)))
+        ∙ ap (λ (n : ℕ). n ∷ (roomAfter size room p ++ records))
+            (right .count ∙ sym (length-endsIn (length (bookOf book)) records))
+        ∙ ap (λ (x : List ℕ). length ends ∷ (roomAfter size room p ++ x)) (sym stored) in
+      (λ k. answered (e k) ((g ∙ first) k) (sym (nothing-written reply) k))
       ∙ ap
           (λ (done : Option Message).
             let t = turnOf (bookOf book) ends (gather size (gatheringIn room) p .gathering) done in
@@ -100,7 +137,7 @@ module _ (book : List ℕ) (size : ℕ) (saved p reply : List ℕ) (may : Takes 
     module _ (after : List ℕ) (e : after ≡ areaAfter size saved p) where
       -- the packet's part as it is lent
       module _ (payload : List ℕ) (lent : payload ≡ drop 2 p) (s : nextOf size (gatheringIn room) p ≡ Single l t n) where
-        pub single-serves : (gatheringRoom ≤ length after) × Serves book (drop gatheringRoom after) payload reply
+        pub single-serves : (recordsPlace ≤ length after) × Serves book (recordsOf after) payload reply
         single-serves = rw (e, lent) (after-long, may-serve (drop 2 p) (single s .fits))
 
         pub single-done : (a : Answered)
@@ -112,26 +149,26 @@ module _ (book : List ℕ) (size : ℕ) (saved p reply : List ℕ) (may : Takes 
             ∙ serves-it (record { label = l; type = t; signal = n; payload = drop 2 p }) (single s .done)
 
       whole : nextOf size (gatheringIn room) p ≡ Complete l t n
-        → Assembled l t n p (take gatheringRoom after) (gather size (gatheringIn room) p .done)
+        → Assembled l t n p (linkOf after) (gather size (gatheringIn room) p .done)
       whole s = rw (e, after-room) (assembled size room p room-right l t n s)
 
-      short : length (gatheringAt (take gatheringRoom after) .message .payload) + length (drop 1 p) ≤ 512
+      short : length (gatheringAt (linkOf after) .message .payload) + length (drop 1 p) ≤ 512
         → length (joined after p) ≤ 512
       unfolding joined
       short h =
-          let e = length-append (gatheringAt (take gatheringRoom after) .message .payload) (drop 1 p) in
+          let e = length-append (gatheringAt (linkOf after) .message .payload) (drop 1 p) in
           omega arith
 
       pub joined-serves : nextOf size (gatheringIn room) p ≡ Complete l t n → Joins book after p reply
       joined-serves s =
           let w = whole s in
           record {
-            long = w .long;
+            long = rw e after-long;
             header = w .header;
             gathered = w .gathered;
             fits = w .fits;
             serves =
-              subst (λ (x : List ℕ). Serves book (drop gatheringRoom x) (joined after p) reply) (sym e)
+              subst (λ (x : List ℕ). Serves book (recordsOf x) (joined after p) reply) (sym e)
                 (may-serve (joined after p) (short (w .fits)))
           }
 

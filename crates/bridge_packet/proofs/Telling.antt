@@ -6,7 +6,7 @@ use mathlib.Core.List.{List, _++_}
 use lib.ListN.{length, take, drop}
 use Rattle.rules.specs.Book.{bookOf}
 use Rattle.rules.specs.Packets.{Message}
-use Rattle.rules.specs.Saved.{endsIn}
+use Rattle.rules.specs.Saved.{recordsPlace, recordsOf, endsIn}
 use Rattle.rules.specs.Commands.{Reply, silence, generalReject, accept, reject, Outcome, answer}
 use Rattle.rules.specs.Host.{Told, nothingSaid, said, toldOf, Answered}
 use Rattle.rules.specs.Answers.{saidOf, Did, did}
@@ -26,29 +26,30 @@ told-reply m (reject p) = refl
 
 module _ (book saved payload reply : List ℕ) where
   abbrev records : List ℕ
-  records = take (length saved - 520) (drop 520 saved)
+  records = take (length saved - recordsPlace) (drop recordsPlace saved)
 
-  pub whole-serves : Serves book (drop 520 saved) payload reply → Serves book records payload reply
-  whole-serves h = rw (behind-whole 520 saved) h
+  pub whole-serves : Serves book (recordsOf saved) payload reply → Serves book records payload reply
+  unfolding recordsOf
+  whole-serves h = rw (behind-whole recordsPlace saved) h
 
   module _ (label kind signal : ℕ) (words : Said) (told : Told) (records′ reply′ : List ℕ) where
     abbrev message : Message
     message = record { label = label; type = kind; signal = signal; payload = payload }
 
     abbrev outcome : Outcome
-    outcome = answer (bookOf book) (endsIn (length (bookOf book)) (drop 520 saved)) message
+    outcome = answer (bookOf book) (endsIn (length (bookOf book)) (drop recordsPlace saved)) message
 
     pub as-served : Obeys (answering kind signal) book records payload reply words records′ reply′
       → told ≡ spoken label signal words
       → _≡_ {A = Answered}
-          (record { told = told; saved = take 520 saved ++ (records′ ++ drop (length saved - 520) (drop 520 saved)); reply = reply′ })
+          (record { told = told; saved = take recordsPlace saved ++ (records′ ++ drop (length saved - recordsPlace) (drop recordsPlace saved)); reply = reply′ })
           (served book message saved reply)
-    unfolding served did answer
+    unfolding served did answer recordsOf
     as-served e t =
         let f =
           subst (λ (x : List ℕ). Obeys (answering kind signal) book x payload reply words records′ reply′)
-            (behind-whole 520 saved) e in
+            (behind-whole recordsPlace saved) e in
         let spoke = t ∙ ap (λ (d : Did). spoken label signal (d .said)) f ∙ told-reply message (outcome .reply) in
-        let stored = tail-back 520 saved records′ ∙ ap (λ (d : Did). take 520 saved ++ d .records) f in
+        let stored = tail-back recordsPlace saved records′ ∙ ap (λ (d : Did). take recordsPlace saved ++ d .records) f in
         let written = ap (λ (d : Did). d .reply) f in
         λ k. record { told = spoke k; saved = stored k; reply = written k }

@@ -8,7 +8,7 @@ use lib.Dec.{eqb}
 use Rattle.rules.specs.Octets.{if_then_else_, front}
 use Rattle.rules.specs.Book.{bookNumber, bookOf}
 use Rattle.rules.specs.Packets.{Message, gather}
-use Rattle.rules.specs.Saved.{gatheringRoom, pairIn, gatheringAt, gatheringIn, storeGathering, endsIn, storeEnds, connectionIn, store}
+use Rattle.rules.specs.Saved.{countRoom, recordsPlace, linkOf, recordsOf, pairIn, gatheringAt, gatheringIn, storeGathering, endsIn, storeEnds, connectionIn, store}
 use Rattle.rules.specs.Saved.{savedRight}
 use Rattle.rules.specs.Commands.{answer}
 use Rattle.rules.specs.Host.{Told, nothingSaid, toldOf, payloadOf, takes, Answered}
@@ -27,31 +27,35 @@ spoken label signal said =
     if eqb (said .kind) 0 then nothingSaid 0
     else record { number = 0; label = label; type = said .kind; signal = signal; length = said .length }
 
--- the saved area behind the gathering of a packet
+-- the saved area with another link part
+unfoldable pub withLink : List ℕ → List ℕ → List ℕ
+withLink link saved = take countRoom saved ++ (link ++ recordsOf saved)
+
+-- the saved area after the gathering of a packet
 unfoldable pub areaAfter : ℕ → List ℕ → List ℕ → List ℕ
 areaAfter size saved p =
-    let room = take gatheringRoom saved in
-    storeGathering (gather size (gatheringIn room) p .gathering) room ++ drop gatheringRoom saved
+    let link = linkOf saved in
+    withLink (storeGathering (gather size (gatheringIn link) p .gathering) link) saved
 
 -- what is gathered in the saved area, and then the packet's part
 unfoldable pub joined : List ℕ → List ℕ → List ℕ
-joined saved p = gatheringAt (take gatheringRoom saved) .message .payload ++ drop 1 p
+joined saved p = gatheringAt (linkOf saved) .message .payload ++ drop 1 p
 
 pub record Joins (book saved p reply : List ℕ) : Type 0 where
-  pub long : length (take gatheringRoom saved) ≡ gatheringRoom
+  pub long : recordsPlace ≤ length saved
   pub header : 1 ≤ length p
-  pub gathered : pairIn (getD (take gatheringRoom saved) 6 0) (getD (take gatheringRoom saved) 7 0) ≤ 512
-  pub fits : length (gatheringAt (take gatheringRoom saved) .message .payload) + length (drop 1 p) ≤ 512
-  pub serves : Serves book (drop gatheringRoom saved) (joined saved p) reply
+  pub gathered : pairIn (getD (linkOf saved) 6 0) (getD (linkOf saved) 7 0) ≤ 512
+  pub fits : length (gatheringAt (linkOf saved) .message .payload) + length (drop 1 p) ≤ 512
+  pub serves : Serves book (recordsOf saved) (joined saved p) reply
 
 -- a message answered over the records of the saved area
 unfoldable pub served : List ℕ → Message → List ℕ → List ℕ → Answered
 served book m saved reply =
-    let records = drop gatheringRoom saved in
+    let records = recordsOf saved in
     let o = answer (bookOf book) (endsIn (length (bookOf book)) records) m in
     record {
       told = toldOf m (o .reply);
-      saved = take gatheringRoom saved ++ storeEnds (o .ends) records;
+      saved = take recordsPlace saved ++ storeEnds (o .ends) records;
       reply = front (payloadOf (o .reply)) reply
     }
 

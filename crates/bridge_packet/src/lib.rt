@@ -2,12 +2,15 @@
 use rules::Next;
 use rules::Said;
 use rules::Told;
+use rules::layout::COUNT;
+use rules::layout::RECORDS;
+use saved::parts::link_of;
 
 ghost use mathlib.Core.Path.{_≡_};
 ghost use mathlib.Core.List.{_++_};
 ghost use Prim.Native.Nat.{_≤_};
 ghost use lib.ListN.{length, take, drop};
-ghost use Rattle.rules.specs.Saved.{gatheringRoom, gatheringIn};
+ghost use Rattle.rules.specs.Saved.{recordsPlace, linkOf, recordsOf, gatheringIn};
 ghost use Rattle.rules.specs.Host.{nothingSaid, Answered};
 ghost use Rattle.rules.specs.Wires.{nextOf};
 ghost use Rattle.rules.specs.Answers.{toldBy};
@@ -44,23 +47,23 @@ fn tell(label: u8, signal: u8, said: Said) -> Told
     }
 }
 
-// Gathers a packet in the front of the saved area.
+// Gathers a packet in the link part of the saved area.
 fn gathered(saved: &mut [u8], size: usize, packet: &[u8]) -> Next
-    requires { ⌜ RoomRight (take gatheringRoom (now saved)) ⌝ }
-    ensures next { λ r. ⌜ r ≡ nextOf size (gatheringIn (take gatheringRoom (now (saved .entry)))) (now (packet .entry)) ⌝ }
+    requires { ⌜ RoomRight (linkOf (now saved)) ⌝ }
+    ensures next { λ r. ⌜ r ≡ nextOf size (gatheringIn (linkOf (now (saved .entry)))) (now (packet .entry)) ⌝ }
     ensures saved { λ _. ⌜ now (saved .exit) ≡ areaAfter size (now (saved .entry)) (now (packet .entry)) ⌝ }
 {
-    packets_gather::gather(&mut saved[0..520], size, packet)
+    packets_gather::gather(&mut saved[COUNT..RECORDS], size, packet)
 }
 
-// Answers a message over the records behind the gathering.
+// Answers a message over the records.
 fn serve(label: u8, kind: u8, signal: u8, book: &[u8], saved: &mut [u8], payload: &[u8], reply: &mut [u8]) -> Told
-    requires { ⌜ (gatheringRoom ≤ length (now saved)) × Serves (now book) (drop gatheringRoom (now saved)) (now payload) (now reply) ⌝ }
+    requires { ⌜ (recordsPlace ≤ length (now saved)) × Serves (now book) (recordsOf (now saved)) (now payload) (now reply) ⌝ }
     ensures { λ r. ⌜ _≡_ {A = Answered} (record { told = toldBy r; saved = now (saved .exit); reply = now (reply .exit) })
         (served (now (book .entry)) (record { label = label; type = kind; signal = signal; payload = now (payload .entry) })
           (now (saved .entry)) (now (reply .entry))) ⌝ }
 {
-    let said = commands::answer(kind, signal, book, &mut saved[520..], payload, reply);
+    let said = commands::answer(kind, signal, book, &mut saved[RECORDS..], payload, reply);
     tell(label, signal, said)
 }
 
@@ -73,7 +76,7 @@ fn serve_joined(label: u8, kind: u8, signal: u8, book: &[u8], saved: &mut [u8], 
           (now (saved .entry)) (now (reply .entry))) ⌝ }
 {
     let mut message = [0u8; 512];
-    let length = packets_gather::assemble(&mut message, &saved[0..520], packet);
+    let length = packets_gather::assemble(&mut message, link_of(saved), packet);
     serve(label, kind, signal, book, saved, &message[0..length], reply)
 }
 

@@ -464,6 +464,12 @@ parts-joined l long =
     ∙ ap (λ (t : List ℕ). getD l 0 0 ∷ t) (take-append-drop linkRoom (drop countRoom l))
     ∙ sym (drop-cons l 0 0 (omega (arith, long)))
 
+-- what stands before the records
+pub front-parts : (l : List ℕ) → countRoom ≤ length l → take recordsPlace l ≡ countIn l ∷ linkOf l
+unfolding countIn linkOf
+front-parts [] long = absurd (omega arith)
+front-parts (x ∷ l) long = refl
+
 -- storing what was read changes no octet
 pub store-read : (n : ℕ) (l : List ℕ) → countIn l ≡ n → areaFor n ≤ length l → gatheringOctetsRight (linkOf l) ≡ true
     → recordsRight n (recordsOf l) ≡ true → octetsIn l ≡ true → store (connectionIn n l) l ≡ l

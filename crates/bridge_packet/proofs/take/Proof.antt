@@ -1,9 +1,8 @@
 -- `take` meets its contract: each answer of the gathering comes with the message that is complete, or with none.
 use mathlib.Core.Path.{_≡_, refl, sym, _∙_}
 use mathlib.Core.Bool.{true}
-use lib.ListN.{take}
 use Rattle.rules.specs.Octets.{octetsIn}
-use Rattle.rules.specs.Saved.{gatheringRoom, gatheringIn}
+use Rattle.rules.specs.Saved.{linkOf, gatheringIn}
 use Rattle.rules.specs.Wires.{nextOf}
 use Rattle.rules.specs.declared.Next.{Next}
 use Rattle.rules.specs.declared.Next.the-variants.{Single, Complete}
@@ -26,7 +25,7 @@ abbrev known-by : tie.After-gathered → tie.After-slice-known
 known-by c = c .before .before .before .before
 
 next : (c : tie.After-gathered) (r : Next) → c .gathered .result ≡ r
-  → let args = entry (known-by c) .args in nextOf (args .size) (gatheringIn (take gatheringRoom (args .saved .now))) (args .packet .now) ≡ r
+  → let args = entry (known-by c) .args in nextOf (args .size) (gatheringIn (linkOf (args .saved .now))) (args .packet .now) ≡ r
 next c r e = sym (c .gathered .ensures .0) ∙ e
 
 abbrev single-by : tie.After-then → tie.After-gathered
@@ -127,7 +126,7 @@ returns-3 c =
     let called = c .before .before .before .before in
     let saved = known-by called in
     let args = entry saved .args in
-    let room = take gatheringRoom (args .saved .now) in
+    let room = linkOf (args .saved .now) in
     nothing-done (args .book .now) (args .size) (args .saved .now) (args .packet .now) (args .reply .now) (entry saved .pre) (known saved) _ _
       (called .gathered .ensures .1) (c .nothing .ensures)
       (none-done (args .size) room (args .packet .now) (called .gathered .result) (c .before .match .keys3)
