@@ -1,33 +1,30 @@
 -- The questions about an endpoint: a refusal shows nothing, a SEID that the book does not have is 10, and of one that it has the
 -- record behind the gathering tells the configuration and the delay.
-use Prim.Native.Nat.{ℕ, _+_, _*_, _-_, _≤_}
+use Prim.Native.Nat.{ℕ, _+_, _*_, _≤_}
 use native.Mathlib.Omega.{arith}
-use mathlib.Core.Path.{_≡_, refl, sym, ap, _∙_}
+use mathlib.Core.Path.{_≡_, refl, sym, ap, _∙_, subst}
 use mathlib.Core.List.{List, [], _∷_}
-use lib.ListN.{length, take, drop}
+use lib.ListN.{length}
 use borrow.Author.Tests.{ne-eqb}
 use Rattle.rules.specs.Octets.{if_then_else_, isEmpty}
 use Rattle.rules.specs.Book.{bookOf}
 use Rattle.rules.specs.Walks.{placeIn, foundBy}
 use Rattle.rules.specs.Endpoints.{Endpoint, endAt}
-use Rattle.rules.specs.Saved.{recordsPlace, recordRoom, endsIn, connectionIn}
+use Rattle.rules.specs.Saved.{recordRoom, configRoom, recordsOf, endsIn, connectionIn}
 use Rattle.rules.specs.Host.{refusalOf, settingsOf, Shown, shownAt, settingsCall, heard, heardAt, delayCall}
 use Rattle.rules.specs.Answers.{heardBy}
 use Rattle.rules.specs.declared.OurSeid.{OurSeid}
 use Rattle.rules.specs.declared.Delay.the-variants.{Unreported}
 use Rattle.rules.specs.declared.Heard.{Heard as HeardBy}
 use Rattle.rules.specs.declared.Place.the-variants.{Unknown, Known}
-use Rattle.rules.proofs.Places.{legal-at}
-use Rattle.rules.proofs.ShortReplies.{end-short}
 use Rattle.octets.specs.Patch.{part}
 use Rattle.book.proofs.Found.{entryBy, found-as, Placed, placed}
-use Rattle.saved.specs.Records.{loaded, endpointOf, recordAt, configAt}
+use Rattle.saved.specs.Records.{loaded, endpointOf, recordAt, configSizeAt, configAt}
 use Rattle.saved.specs.declared.records.Endpoint.{Endpoint as Head}
-use Rattle.saved.proofs.OneStore.{loaded-one}
+use Rattle.saved.proofs.OneStore.{loaded-one, length-told}
 use Rattle.commands_reply.proofs.Serving.{misses}
 use Rattle.saved_events.proofs.Awaits.{has-room}
 use Rattle.bridge.specs.Calls.{Hears}
-use Rattle.bridge_packet.proofs.Halves.{behind-whole}
 use Rattle.bridge.proofs.Refusing.{Calm}
 
 module _ (book saved : List ℕ) (s : OurSeid) where
@@ -70,10 +67,8 @@ module _ (book saved : List ℕ) (s : OurSeid) where
 
     -- ---- The endpoint that the SEID names
 
-    module _ (i kind from size : ℕ) (there : placeIn s book ≡ Known i kind from size) where
-      abbrev records : List ℕ
-      records = take (length saved - recordsPlace) (drop recordsPlace saved)
-
+    module _ (i kind from size : ℕ) (there : placeIn s book ≡ Known i kind from size) (records : List ℕ)
+        (lent : records ≡ recordsOf saved) where
       place : Placed s book i kind from size
       place = placed s book i kind from size (calm .numbered) there
 
@@ -81,20 +76,17 @@ module _ (book saved : List ℕ) (s : OurSeid) where
         ≡ endpointOf (loaded (recordAt i records)) (configAt i records)
       shows =
           loaded-one (length (bookOf book)) i (recordsOf saved) (place .counted)
-          ∙ ap (λ (l : List ℕ). endpointOf (loaded (recordAt i l)) (configAt i l)) (sym (behind-whole recordsPlace saved))
+          ∙ ap (λ (l : List ℕ). endpointOf (loaded (recordAt i l)) (configAt i l)) (sym lent)
 
       pub record-there : (i + 1) * recordRoom ≤ length records
       record-there =
           has-room (length (bookOf book)) i (recordsOf saved) records (place .counted) (calm .inside .held)
-            (behind-whole recordsPlace saved)
+            lent
 
-      pub config-fits : length (configAt i records) ≤ 64
-      unfolding endpointOf
+      pub config-fits : configSizeAt i records ≤ configRoom
       config-fits =
-          let ends = endsIn (length (bookOf book)) (recordsOf saved) in
-          rw shows at
-            (end-short (entryBy s book kind from size) (endAt ends i) (place .right)
-              (legal-at (place .place) ends (calm .inside .lawful)))
+          subst (λ (l : List ℕ). configSizeAt i l ≤ configRoom) (sym lent)
+            (length-told (length (bookOf book)) i (recordsOf saved) (place .counted) (calm .inside .held))
 
       pub offer-inside : from + size ≤ length book
       offer-inside = place .inside

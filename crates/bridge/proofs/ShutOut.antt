@@ -6,6 +6,7 @@ use mathlib.Core.List.{List, [], _∷_}
 use lib.ListN.{replicate}
 use Rattle.rules.specs.Computed.{computed}
 use Rattle.rules.specs.Packets.{Message}
+use Rattle.rules.specs.Saved.{areaFor}
 use Rattle.rules.specs.Sessions.{Call, fresh, packet, cut, Answer, number, told, cutOff}
 use Rattle.rules.specs.Table.{traceBook, setConfiguration1}
 use Rattle.bridge.specs.Hosts.{Runs}
@@ -42,7 +43,7 @@ sessionAnswers =
     ∷ cutOff (record { number = 0; length = 48; area = 0x16 ∷ 0x02 ∷ 0x0C ∷ replicate 45 0xAB })
     ∷ []
 
-pub shut-out : (answers : List Answer) (last : List ℕ) → Runs traceBook (replicate 680 0xDD) session answers last
+pub shut-out : (answers : List Answer) (last : List ℕ) → Runs traceBook (replicate (areaFor 2) 0xDD) session answers last
   → answers ≡ sessionAnswers
 unfolding computed traceBook session sessionAnswers
-shut-out answers last runs = defined traceBook (replicate 680 0xDD) session answers last runs .told ∙ refl
+shut-out answers last runs = defined traceBook (replicate (areaFor 2) 0xDD) session answers last runs .told ∙ refl

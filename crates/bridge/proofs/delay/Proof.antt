@@ -37,14 +37,8 @@ heard-requires-2 c κs = search needs
 enum-known-place : tie.Need-enum-known-place
 enum-known-place c = search needs
 
-sub-get : tie.Need-sub-get
-sub-get c = quiet (c .before .before .before .before) .long
-
-part-get-start : tie.Need-part-get-start
-part-get-start c = quiet (c .before .before .before .before) .long
-
-part-get-end : tie.Need-part-get-end
-part-get-end c = search needs
+records-of-requires : tie.Need-records-of-requires
+records-of-requires c κs = quiet (c .before .before .before .before) .long
 
 get-requires : tie.Need-get-requires
 get-requires c κs =
@@ -52,7 +46,7 @@ get-requires c κs =
     let placed = told .before .before in
     let args = placed .before .before .before .before .before .args in
     record-there (args .book .now) (args .saved .now) (args .seid) (quiet (placed .before)) _ _ _ _
-      (sym (placed .place .ensures) ∙ told .place2 .given .1)
+      (sym (placed .place .ensures) ∙ told .place2 .given .1) _ (c .records-of .ensures)
 
 heard-requires-3 : tie.Need-heard-requires-3
 heard-requires-3 c κs = search needs
@@ -72,8 +66,8 @@ returns-3 c =
     let placed = told .before .before in
     let args = placed .before .before .before .before .before .args in
     known-heard (args .book .now) (args .saved .now) (args .seid) (quiet (placed .before)) _ _ _ _
-      (sym (placed .place .ensures) ∙ told .place2 .given .1) (got .get .result) (c .heard3 .result) (got .get .ensures)
-      (c .heard3 .ensures)
+      (sym (placed .place .ensures) ∙ told .place2 .given .1) _ (got .before .records-of .ensures) (got .get .result)
+      (c .heard3 .result) (got .get .ensures) (c .heard3 .ensures)
 
 pub delay-spec : {M : Type 1} → statement M
 delay-spec =
@@ -86,9 +80,7 @@ delay-spec =
     enum-told
     heard-requires-2
     enum-known-place
-    sub-get
-    part-get-start
-    part-get-end
+    records-of-requires
     get-requires
     heard-requires-3
     returns-2

@@ -1,8 +1,9 @@
--- `fresh` meets its contract: the book's number, then the area's length, then the records and the gathering's mark.
+-- `fresh` meets its contract: the book's number, then the area's length, then the records, the count and the gathering's mark.
 use borrow.Author.Needs.{needs}
 use Prim.Native.Nat.{_≤_}
 use native.Mathlib.Omega.{arith}
 use mathlib.Core.Path.{_≡_, sym, _∙_}
+use lib.ListN.{length-set}
 use Rattle.rules.specs.Host.{checkCall}
 use Rattle.rules.proofs.RightBook.{right-book}
 use Rattle.bridge.proofs.Freshened.{fresh-refused, short-fresh, lent-room, freshened}
@@ -65,8 +66,15 @@ begin-requires c κs =
       lent-room (args .book .now) (args .saved .now) (right (counted .before)) (counted .count .result) (counted .count .ensures)
         (long .if2 .left))
 
+cast-saved : tie.Need-cast-saved
+cast-saved c = omega (arith, few (c .before .before .before .before .before))
+
 slice-write-saved : tie.Need-slice-write-saved
 slice-write-saved c = search needs
+
+slice-write-saved-2 : tie.Need-slice-write-saved-2
+slice-write-saved-2 c =
+    simp length-set (omega (arith, c .before .saved .given .1, c .before .before .before .before .if2 .left))
 
 same-length : tie.Need-same-length
 same-length c = search needs
@@ -94,6 +102,8 @@ fresh-spec =
     part-begin-start
     part-begin-end
     begin-requires
+    cast-saved
     slice-write-saved
+    slice-write-saved-2
     same-length
     returns-3)

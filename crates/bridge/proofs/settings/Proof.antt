@@ -54,14 +54,8 @@ part-result-end-2 c = search needs
 enum-known-place : tie.Need-enum-known-place
 enum-known-place c = search needs
 
-sub-config : tie.Need-sub-config
-sub-config c = quiet (c .before .before .before .before) .long
-
-part-config-start : tie.Need-part-config-start
-part-config-start c = quiet (c .before .before .before .before) .long
-
-part-config-end : tie.Need-part-config-end
-part-config-end c = search needs
+records-of-requires : tie.Need-records-of-requires
+records-of-requires c κs = quiet (c .before .before .before .before) .long
 
 config-requires : tie.Need-config-requires
 config-requires c κs =
@@ -69,8 +63,10 @@ config-requires c κs =
     let placed = told .before .before in
     let args = placed .before .before .before .before .before .args in
     let there = sym (placed .place .ensures) ∙ told .place2 .given .1 in
-    ( record-there (args .book .now) (args .saved .now) (args .seid) (quiet (placed .before)) _ _ _ _ there,
-      config-fits (args .book .now) (args .saved .now) (args .seid) (quiet (placed .before)) _ _ _ _ there)
+    ( record-there (args .book .now) (args .saved .now) (args .seid) (quiet (placed .before)) _ _ _ _ there _
+        (c .records-of .ensures),
+      config-fits (args .book .now) (args .saved .now) (args .seid) (quiet (placed .before)) _ _ _ _ there _
+        (c .records-of .ensures))
 
 part-requires : tie.Need-part-requires
 part-requires c κs =
@@ -78,7 +74,7 @@ part-requires c κs =
     let placed = told .before .before in
     let args = placed .before .before .before .before .before .args in
     offer-inside (args .book .now) (args .saved .now) (args .seid) (quiet (placed .before)) _ _ _ _
-      (sym (placed .place .ensures) ∙ told .place2 .given .1)
+      (sym (placed .place .ensures) ∙ told .place2 .given .1) _ (c .before .before .records-of .ensures)
 
 returns-2 : tie.Need-returns-2
 returns-2 c =
@@ -97,7 +93,8 @@ returns-3 c =
     let placed = told .before .before in
     let args = placed .before .before .before .before .before .args in
     offer-shown (args .book .now) (args .saved .now) (args .seid) (quiet (placed .before)) _ _ _ _
-      (sym (placed .place .ensures) ∙ told .place2 .given .1) (asked .config .result .now) (c .part .result .now)
+      (sym (placed .place .ensures) ∙ told .place2 .given .1) _ (asked .before .records-of .ensures)
+      (asked .config .result .now) (c .part .result .now)
       (asked .config .ensures) (tested .if2 .taken) (c .part .ensures)
 
 returns-4 : tie.Need-returns-4
@@ -107,7 +104,8 @@ returns-4 c =
     let placed = told .before .before in
     let args = placed .before .before .before .before .before .args in
     config-shown (args .book .now) (args .saved .now) (args .seid) (quiet (placed .before)) _ _ _ _
-      (sym (placed .place .ensures) ∙ told .place2 .given .1) (asked .config .result .now) (asked .config .ensures) (c .if2 .left)
+      (sym (placed .place .ensures) ∙ told .place2 .given .1) _ (asked .before .records-of .ensures)
+      (asked .config .result .now) (asked .config .ensures) (c .if2 .left)
 
 pub settings-spec : {M : Type 1} → statement M
 settings-spec =
@@ -124,9 +122,7 @@ settings-spec =
     part-result-start-2
     part-result-end-2
     enum-known-place
-    sub-config
-    part-config-start
-    part-config-end
+    records-of-requires
     config-requires
     part-requires
     returns-2
