@@ -1,6 +1,6 @@
 -- Where an endpoint's settings stand: the octet of the record that tells the configuration's length decides between the two
 -- areas, and the part there is what the settings call shows.
-use Prim.Native.Nat.{ℕ, _+_, _*_, _-_, _≤_, _<_}
+use Prim.Native.Nat.{ℕ, _+_, _*_, _≤_, _<_}
 use native.Mathlib.Omega.{arith}
 use mathlib.Core.Path.{_≡_, refl, sym, ap, _∙_}
 use mathlib.Core.List.{List, []}
@@ -9,7 +9,7 @@ use lib.Seq.{getD-drop, drop-drop}
 use lib.Dec.{eqb}
 use borrow.Author.Tests.{eq-eqb, ne-eqb, eqb-true, eqb-false}
 use Rattle.rules.specs.Walks.{placeIn}
-use Rattle.rules.specs.Saved.{recordRoom}
+use Rattle.rules.specs.Saved.{recordsPlace, recordRoom, headRoom, recordsOf}
 use Rattle.rules.specs.Host.{refusalOf, Shown, settingsCall}
 use Rattle.rules.specs.declared.Place.{Place}
 use Rattle.rules.specs.declared.Place.the-variants.{Unknown, Known}
@@ -17,7 +17,6 @@ use Rattle.rules.proofs.Tests.{Told?, told, passed, failed}
 use Rattle.octets.specs.Patch.{part}
 use Rattle.saved.specs.Records.{configAt}
 use Rattle.saved.proofs.Configs.{size-short, config-part}
-use Rattle.bridge_packet.proofs.Halves.{behind-whole}
 use Rattle.bridge.proofs.Refusing.{Calm, calm}
 use Rattle.bridge.proofs.Asked.{refused-shown, missing-shown, there-shown, record-there, config-fits, offer-inside, offer-shown}
 use Rattle.bridge.proofs.Asked.{config-shown}
@@ -48,49 +47,49 @@ module _ (book saved : List ℕ) (seid : ℕ) where
 
   module _ (calm : Calm book saved) (i kind from size : ℕ) (there : placeIn (ours seid) book ≡ Known i kind from size) where
     abbrev records : List ℕ
-    records = take (length saved - 520) (drop 520 saved)
+    records = recordsOf saved
 
     abbrev told-length : ℕ
     told-length = getD saved (recordFrom i + 7) 0
 
     length-octet : getD records (i * recordRoom + 7) 0 ≡ told-length
+    unfolding recordsOf
     length-octet =
-        ap (λ (l : List ℕ). getD l (i * recordRoom + 7) 0) (behind-whole 520 saved)
-        ∙ getD-drop 520 saved (i * recordRoom + 7) 0
+        getD-drop recordsPlace saved (i * recordRoom + 7) 0
         ∙ ap (λ (k : ℕ). getD saved k 0) (omega arith)
 
-    part-behind : (from size : ℕ) → part from size (drop 520 saved) ≡ part (520 + from) size saved
-    unfolding part
-    part-behind from size = ap (take size) (drop-drop from 520 saved)
+    part-behind : (from size : ℕ) → part from size records ≡ part (recordsPlace + from) size saved
+    unfolding part recordsOf
+    part-behind from size = ap (take size) (drop-drop from recordsPlace saved)
 
-    config-stands : part (recordFrom i + 8) told-length saved ≡ configAt i records
+    config-stands : part (recordFrom i + headRoom) told-length saved ≡ configAt i records
     config-stands =
-        let whole = record-there book saved (ours seid) calm i kind from size there in
-        let short = config-fits book saved (ours seid) calm i kind from size there in
+        let whole = record-there book saved (ours seid) calm i kind from size there records refl in
+        let short = config-fits book saved (ours seid) calm i kind from size there records refl in
         sym
           (config-part i records whole short
-           ∙ ap (λ (k : ℕ). part (i * recordRoom + 8) k records) length-octet
-           ∙ ap (part (i * recordRoom + 8) told-length) (behind-whole 520 saved)
-           ∙ part-behind (i * recordRoom + 8) told-length
+           ∙ ap (λ (k : ℕ). part (i * recordRoom + headRoom) k records) length-octet
+           ∙ part-behind (i * recordRoom + headRoom) told-length
            ∙ ap (λ (k : ℕ). part k told-length saved) (omega arith))
 
     pub record-inside : recordFrom i + recordRoom ≤ length saved
+    unfolding recordsOf
     record-inside =
-        let whole = record-there book saved (ours seid) calm i kind from size there in
-        let e = ap length (behind-whole 520 saved) ∙ length-drop 520 saved in
+        let whole = record-there book saved (ours seid) calm i kind from size there records refl in
+        let e = length-drop recordsPlace saved in
         omega (arith, calm .long)
 
     length-short : told-length ≤ 64
     length-short =
         omega (arith, length-octet,
-          size-short i records (record-there book saved (ours seid) calm i kind from size there)
-            (config-fits book saved (ours seid) calm i kind from size there))
+          size-short i records (record-there book saved (ours seid) calm i kind from size there records refl)
+            (config-fits book saved (ours seid) calm i kind from size there records refl))
 
     config-long : length (configAt i records) ≡ told-length
     unfolding part
     config-long =
-        let e = ap length (sym config-stands) ∙ length-take told-length (drop (recordFrom i + 8) saved) in
-        let d = length-drop (recordFrom i + 8) saved in
+        let e = ap length (sym config-stands) ∙ length-take told-length (drop (recordFrom i + headRoom) saved) in
+        let d = length-drop (recordFrom i + headRoom) saved in
         omega (arith, length-short, record-inside)
 
     answered : 0 ≡ settingsCall book saved (ours seid) .number
@@ -116,7 +115,7 @@ module _ (book saved : List ℕ) (seid : ℕ) where
 
     offer-within : offer .offset + offer .length ≤ length (areaBy (offer .area) book saved)
     unfolding areaBy
-    offer-within = offer-inside book saved (ours seid) calm i kind from size there
+    offer-within = offer-inside book saved (ours seid) calm i kind from size there records refl
 
     pub offer-stands : told-length ≡ 0 → Stands book saved seid offer
     offer-stands none =
@@ -124,7 +123,7 @@ module _ (book saved : List ℕ) (seid : ℕ) where
           place = offer-place none;
           shows =
             offer-part
-              (offer-shown book saved (ours seid) calm i kind from size there (configAt i records) (part from size book) refl
+              (offer-shown book saved (ours seid) calm i kind from size there records refl (configAt i records) (part from size book) refl
                 (config-long ∙ none) refl);
           inside = offer-within
         }
@@ -132,16 +131,16 @@ module _ (book saved : List ℕ) (seid : ℕ) where
     -- with one: its octets in the record
 
     abbrev stored : Span
-    stored = record { number = 0; area = 2; offset = recordFrom i + 8; length = told-length }
+    stored = record { number = 0; area = 2; offset = recordFrom i + headRoom; length = told-length }
 
     stored-place : (told-length ≡ 0 → ⊥) → stored ≡ spanCall book saved (ours seid)
     unfolding spanCall spanAt
     stored-place some = rw (calm .allowed, there, ne-eqb told-length 0 some)
 
-    stored-part : part (recordFrom i + 8) told-length saved ≡ settingsCall book saved (ours seid) .part
+    stored-part : part (recordFrom i + headRoom) told-length saved ≡ settingsCall book saved (ours seid) .part
       → shownBy book saved stored ≡ settingsCall book saved (ours seid)
     unfolding shownBy areaBy
-    stored-part e = shown-as (part (recordFrom i + 8) told-length saved) e
+    stored-part e = shown-as (part (recordFrom i + headRoom) told-length saved) e
 
     stored-within : stored .offset + stored .length ≤ length (areaBy (stored .area) book saved)
     unfolding areaBy
@@ -154,7 +153,7 @@ module _ (book saved : List ℕ) (seid : ℕ) where
           shows =
             stored-part
               (config-stands
-               ∙ config-shown book saved (ours seid) calm i kind from size there (configAt i records) refl
+               ∙ config-shown book saved (ours seid) calm i kind from size there records refl (configAt i records) refl
                    (λ e. some (sym config-long ∙ e)));
           inside = stored-within
         }

@@ -7,7 +7,7 @@ use lib.ListN.{length, getD}
 use lib.Dec.{eqb}
 use Rattle.rules.specs.Octets.{if_then_else_}
 use Rattle.rules.specs.Walks.{placeIn}
-use Rattle.rules.specs.Saved.{gatheringRoom, recordRoom}
+use Rattle.rules.specs.Saved.{recordsPlace, recordRoom, headRoom}
 use Rattle.rules.specs.Host.{Kept, freshCall, Answered, packetCall, eventCall, refusalOf, Shown, settingsCall, delayCall, cutCall}
 use Rattle.rules.specs.declared.OurSeid.{OurSeid}
 use Rattle.rules.specs.declared.Event.{Event}
@@ -56,7 +56,7 @@ nowhereBy number = record { number = number; area = 0; offset = 0; length = 0 }
 
 -- where record i begins in the saved area
 abbrev pub recordFrom : ℕ → ℕ
-recordFrom i = gatheringRoom + i * recordRoom
+recordFrom i = recordsPlace + i * recordRoom
 
 -- the configuration of record i where it has one, else the list of the book's entry
 unfoldable pub spanAt : Place → List ℕ → Span
@@ -64,7 +64,7 @@ spanAt Unknown saved = nowhereBy 10
 spanAt (Known i kind from size) saved =
     let n = getD saved (recordFrom i + 7) 0 in
     if eqb n 0 then record { number = 0; area = 1; offset = from; length = size }
-    else record { number = 0; area = 2; offset = recordFrom i + 8; length = n }
+    else record { number = 0; area = 2; offset = recordFrom i + headRoom; length = n }
 
 unfoldable pub spanCall : List ℕ → List ℕ → OurSeid → Span
 spanCall book saved s =

@@ -5,6 +5,10 @@ mod events;
 
 use rules::OurSeid;
 use rules::Place;
+use rules::layout::CONFIG_LENGTH;
+use rules::layout::HEAD;
+use rules::layout::RECORD;
+use rules::layout::RECORDS;
 
 ghost use mathlib.Core.Path.{_≡_};
 ghost use Rattle.rules.specs.Host.{checkCall, packetsCall};
@@ -111,8 +115,8 @@ pub extern "C" fn bawbeenor_settings(book: &[u8], saved: &[u8], seid: u8) -> Spa
             from,
             size,
         } => {
-            let head = 520 + index * 80;
-            let length = saved[head + 7] as usize;
+            let head = RECORDS + index * RECORD;
+            let length = saved[head + CONFIG_LENGTH] as usize;
             if length == 0 {
                 Span {
                     number: 0,
@@ -124,7 +128,7 @@ pub extern "C" fn bawbeenor_settings(book: &[u8], saved: &[u8], seid: u8) -> Spa
                 Span {
                     number: 0,
                     area: 2,
-                    offset: head + 8,
+                    offset: head + HEAD,
                     length,
                 }
             }
