@@ -23,6 +23,7 @@ pub mod View
 pub mod Seen
 pub mod AlikeStep
 pub mod QuietStep
+pub mod LentAreas
 pub mod Quiet
 pub mod QuietExample
 pub mod Instances

@@ -12,7 +12,7 @@ use Rattle.rules.specs.Endpoints.{Ends, Connection, endAt, idle}
 use Rattle.rules.specs.Saved.{connectionIn, savedRight}
 use Rattle.rules.specs.Commands.{Reply, silence, generalReject, accept, reject, answer}
 use Rattle.rules.specs.Host.{toldOf, said, turnOf, takes, packetCall}
-use Rattle.rules.specs.Sessions.{Call, packet, Answer, number, told, heard, cutOff, call, answered, after}
+use Rattle.rules.specs.Sessions.{Call, packet, Answer, number, told, shown, heard, counted, cutOff, call, answered, after}
 use Rattle.rules.specs.Moves.{isAccept, turnsIn}
 use Rattle.rules.specs.declared.State.the-variants.{Idle}
 use Rattle.rules.proofs.Tests.{Told?, passed, failed, told as told?}
@@ -56,29 +56,31 @@ takes-unmoved book size c p =
 typeIn : Answer → ℕ
 typeIn (number n) = 0
 typeIn (told t reply) = t .type
+typeIn (shown s) = 0
 typeIn (heard h) = 0
+typeIn (counted n) = 0
 typeIn (cutOff c) = 0
 
 module _ (b : List ℕ) (size : ℕ) (saved p reply : List ℕ) (ok : bookNumber b ≡ 0) (right : savedRight (bookOf b) saved ≡ true) where
-  shown : Connection
-  shown = connectionIn (length (bookOf b)) saved
+  start : Connection
+  start = connectionIn (length (bookOf b)) saved
 
-  step : Stepped b saved shown (packet size p reply)
-  unfolding shown
-  step = view-step b ok saved shown (record { right = right; shows = refl }) (packet size p reply)
+  step : Stepped b saved start (packet size p reply)
+  unfolding start
+  step = view-step b ok saved start (record { right = right; shows = refl }) (packet size p reply)
 
   -- A packet that completes no Start and no Suspend and is not answered with an accept moves no endpoint.
-  packet-stays : Told? (eqb (packetNumber size reply) 0) → turnsIn (gather size (shown .gathering) p .done) ≡ false
-    → (packetCall b size saved p reply .told .type ≡ 2 → ⊥) → goes (bookOf b) shown (packet size p reply) .ends ≡ shown .ends
+  packet-stays : Told? (eqb (packetNumber size reply) 0) → turnsIn (gather size (start .gathering) p .done) ≡ false
+    → (packetCall b size saved p reply .told .type ≡ 2 → ⊥) → goes (bookOf b) start (packet size p reply) .ends ≡ start .ends
   unfolding goes says call answered typeIn
   packet-stays (failed refused) t h = rw refused
   packet-stays (passed taken) t h =
-      rw taken (takes-unmoved (bookOf b) size shown p t (λ e. h (ap typeIn (step .answer) ∙ rw taken e)))
+      rw taken (takes-unmoved (bookOf b) size start p t (λ e. h (ap typeIn (step .answer) ∙ rw taken e)))
 
   pub packet-unmoved : turnsIn (gather size (connectionIn (length (bookOf b)) saved .gathering) p .done) ≡ false
     → (packetCall b size saved p reply .told .type ≡ 2 → ⊥)
     → connectionIn (length (bookOf b)) (packetCall b size saved p reply .saved) .ends
       ≡ connectionIn (length (bookOf b)) saved .ends
-  unfolding shown call answered
+  unfolding start call answered
   packet-unmoved t h =
       ap (λ (c : Connection). c .ends) (step .next .shows) ∙ packet-stays (told? (eqb (packetNumber size reply) 0)) t h

@@ -24,8 +24,8 @@ use Rattle.rules.specs.Endpoints.{legalEnd, legalEnds, legal, awaiting, 
 use Rattle.rules.specs.Saved.{areaFor, connectionIn, store, savedRight}
 use Rattle.rules.specs.Host.{checkCall, numberOr, savedNumber, refusalOf, packetRefusal, Kept, freshCall, nothingSaid}
 use Rattle.rules.specs.Host.{takes, packetCall, eventCall, shownAt, settingsCall, heardAt, delayCall, packetsCall, cutCall}
-use Rattle.rules.specs.Sessions.{Call, check, fresh, packet, event, settingsTold, delay, packets, cut}
-use Rattle.rules.specs.Sessions.{Answer, number, told, heard, cutOff, Done, kept, answered, asked, call}
+use Rattle.rules.specs.Sessions.{Call, check, fresh, packet, event, settings, delay, packets, cut}
+use Rattle.rules.specs.Sessions.{Answer, number, told, shown, heard, counted, cutOff, Done, kept, answered, asked, call}
 use Rattle.rules.specs.Alike.{Begins, begun, lost}
 use Rattle.rules.specs.declared.OurSeid.{OurSeid}
 use Rattle.rules.specs.declared.Event.{Event}
@@ -44,9 +44,9 @@ says book c (packet size p reply) =
     if eqb (packetNumber size reply) 0 then told (takes book size c p .told) (front (takes book size c p .payload) reply)
     else told (nothingSaid (packetNumber size reply)) reply
 says book c (event v) = number (happens book c v .number)
-says book c (settingsTold s) = number (shownAt (find s book) (c .ends) .number)
+says book c (settings s) = shown (shownAt (find s book) (c .ends))
 says book c (delay s) = heard (heardAt (find s book) (c .ends))
-says book c (packets size n) = number (packetsCall size n)
+says book c (packets size n) = counted (packetsCall size n)
 says book c (cut size m k area) = cutOff (cutCall size m k area)
 
 unfoldable pub goes : Book → Connection → Call → Connection
@@ -54,7 +54,7 @@ goes book c check = c
 goes book c fresh = freshConnection book
 goes book c (packet size p reply) = if eqb (packetNumber size reply) 0 then takes book size c p .connection else c
 goes book c (event v) = happens book c v .connection
-goes book c (settingsTold s) = c
+goes book c (settings s) = c
 goes book c (delay s) = c
 goes book c (packets size n) = c
 goes book c (cut size m k area) = c
@@ -149,11 +149,10 @@ module _ (b : List ℕ) (ok : bookNumber b ≡ 0) where
         step (event e) (kept (record { number = happens (bookOf b) c e .number; saved = s })) (rw (v .shows, no-refusal, refused))
           refl (rw (happens-refused (bookOf b) c e refused) v)
 
-    settings-step : (x : OurSeid) → Stepped b s c (settingsTold x)
+    settings-step : (x : OurSeid) → Stepped b s c (settings x)
     unfolding call asked says goes settingsCall
     settings-step x =
-        step (settingsTold x) (asked s (number (shownAt (find x (bookOf b)) (c .ends) .number)))
-          (rw (no-refusal, v .shows)) refl v
+        step (settings x) (asked s (shown (shownAt (find x (bookOf b)) (c .ends)))) (rw (no-refusal, v .shows)) refl v
 
     delay-step : (x : OurSeid) → Stepped b s c (delay x)
     unfolding call asked says goes delayCall
@@ -166,7 +165,7 @@ module _ (b : List ℕ) (ok : bookNumber b ≡ 0) where
     view-step fresh = fresh-step
     view-step (packet size p reply) = packet-step size p reply (whether (eqb (packetNumber size reply) 0))
     view-step (event e) = event-step e (whether (eqb (happens (bookOf b) c e .number) 0))
-    view-step (settingsTold x) = settings-step x
+    view-step (settings x) = settings-step x
     view-step (delay x) = delay-step x
     view-step (packets size n) = record { answer = refl; next = v }
     view-step (cut size m k area) = record { answer = refl; next = v }
