@@ -18,6 +18,9 @@ pub mod ShortReplies
 pub mod SavedStaysRight
 pub mod Never12
 pub mod Refused
+pub mod Unrefused
+pub mod SettingsShown
+pub mod EveryAnswer
 pub mod Moves
 pub mod View
 pub mod Seen
