@@ -1,34 +1,33 @@
--- Every answer is a reply, silence, or a number of the list, for every call and every input: a call's number comes out of a chain of
--- tests, each of which gives one of the call's numbers, and what is answered without a refusal is told on a legal connection.
+-- Every answer is a reply, silence, or a number of the list, for every call and every input: a call's number comes out of a
+-- chain of tests, each of which gives one of the call's numbers, and what is answered without a refusal is told on a legal
+-- connection.
 use Prim.Native.Nat.{ℕ, zero, suc, _+_, _-_, _≤_}
 use native.Mathlib.Nat.{div-lt-iff-lt-mul}
 use native.Mathlib.Omega.{arith}
-use mathlib.Core.Path.{_≡_, refl, sym, ap, _∙_, subst}
+use mathlib.Core.Path.{_≡_, refl, sym}
 use mathlib.Core.List.{List, [], _∷_, _++_}
 use mathlib.Core.Bool.{Bool, true, false, not, _&&_, _||_}
 use mathlib.Core.Option.{Option, none, some}
 use lib.ListN.{length, take, drop, getD}
 use lib.Dec.{leb, ltb, eqb, lit≤}
 use borrow.Author.Tests.{leb-true, eqb-true, not-false}
-use Rattle.rules.specs.Octets.{if_then_else_, between, sameOctets, member, isEmpty, some-of, front}
-use Rattle.rules.specs.Elements.{items, has}
-use Rattle.rules.specs.Book.{Entry, Book, kindRight, mediaType, listRight, entriesNumber, bookNumber, bookOf, Found, unknown}
-use Rattle.rules.specs.Book.{known, find}
+use Rattle.rules.specs.Octets.{if_then_else_, between, sameOctets, member, isEmpty, front}
+use Rattle.rules.specs.Elements.{items}
+use Rattle.rules.specs.Book.{Entry, Book, kindRight, mediaType, listRight, entriesNumber, bookNumber, bookOf, Found}
+use Rattle.rules.specs.Book.{unknown, known, find}
 use Rattle.rules.specs.Packets.{Message, Gathering, sizeRight, longest, gather}
 use Rattle.rules.specs.Cutting.{avdtp, packetsFor, countOf, packetAt}
-use Rattle.rules.specs.Endpoints.{Ends, Connection, isUp, awaiting, endAt, Moved, downAt, happens, freshConnection, legal}
-use Rattle.rules.specs.Saved.{areaFor, connectionIn, savedRight, store}
+use Rattle.rules.specs.Endpoints.{Ends, Connection, isUp, awaiting, endAt, Moved, downAt, happens}
+use Rattle.rules.specs.Saved.{areaFor, connectionIn, savedRight}
 use Rattle.rules.specs.Commands.{Reply, silence, generalReject, accept, reject, answer}
-use Rattle.rules.specs.Host
-use Rattle.rules.specs.Host.{checkCall, numberOr, savedNumber, refusalOf, packetRefusal, Kept, freshCall, nothingSaid, said}
-use Rattle.rules.specs.Host.{toldOf, payloadOf, Turn, turnOf, takes, Answered, packetCall, eventCall, settingsOf, Shown}
-use Rattle.rules.specs.Host.{shownAt, settingsCall, Heard, heardAt, delayCall, packetsCall, Cut, cutRefusal, cutCall}
-use Rattle.rules.specs.Sessions.{Call, check, fresh, packet, event, settings, delay, packets, cut, number, told, shown, heard}
-use Rattle.rules.specs.Sessions.{counted, cutOff, Done, kept, answered, asked, call, answers}
-use Rattle.rules.specs.Listed.{bookNumbers, refusals, refusedWith, Listed, refused, checked, begun, silent, replied, happened}
-use Rattle.rules.specs.Listed.{shows, hears, counts, cuts, EachListed, none as nothing, more}
+use Rattle.rules.specs.Host.{checkCall, numberOr, savedNumber, refusalOf, packetRefusal, Kept, freshCall, said, toldOf}
+use Rattle.rules.specs.Host.{payloadOf, turnOf, takes, Answered, packetCall, eventCall, settingsOf, Shown, shownAt}
+use Rattle.rules.specs.Host.{settingsCall, Heard, heardAt, delayCall, packetsCall, Cut, cutRefusal, cutCall}
+use Rattle.rules.specs.Sessions.{Call, check, fresh, packet, event, settings, delay, packets, cut, number, told, shown}
+use Rattle.rules.specs.Sessions.{heard, cutOff, kept, answered, asked, call, answers}
+use Rattle.rules.specs.Listed.{bookNumbers, refusals, refusedWith, Listed, refused, checked, begun, silent, replied}
+use Rattle.rules.specs.Listed.{happened, shows, hears, counts, cuts, EachListed, none as nothing, more}
 use Rattle.rules.specs.declared.OurSeid.{OurSeid}
-use Rattle.rules.specs.declared.Delay.the-variants.{Unreported}
 use Rattle.rules.specs.declared.Event.{Event}
 use Rattle.rules.specs.declared.Event.the-variants.{Up, Down, Lost}
 use Rattle.rules.proofs.Tests.{Told?, passed, failed, told as whether, and-l, and-r, between-least, clash}
@@ -102,7 +101,8 @@ book-number b =
     entries-number (getD b 5 0) 0 (drop 6 b)
 
 -- the book's numbers, and then those of a list
-book-or : (k : List ℕ) (b : List ℕ) (next : ℕ) → Among (bookNumbers ++ k) next → Among (bookNumbers ++ k) (numberOr (bookNumber b) next)
+book-or : (k b : List ℕ) (next : ℕ) → Among (bookNumbers ++ k) next
+    → Among (bookNumbers ++ k) (numberOr (bookNumber b) next)
 book-or k b next a = or-among (bookNumbers ++ k) (bookNumber b) next (among-more bookNumbers k (bookNumber b) (book-number b)) a
 
 -- ---- What the calls that are given a saved area test
@@ -192,17 +192,18 @@ module _ (b : List ℕ) (size : ℕ) (saved p reply : List ℕ) where
 
 -- ---- event
 
-down-among : (l : List ℕ) (f : Found) (c : Connection) → Among (l ++ (12 ∷ 10 ∷ [])) 10 → Among (l ++ (12 ∷ 10 ∷ [])) (downAt f c .number)
+down-among : (f : Found) (c : Connection) → Among (bookNumbers ++ (12 ∷ 10 ∷ [])) (downAt f c .number)
 unfolding downAt member
-down-among l unknown c ten = ten
-down-among l (known i n) c ten =
-    if-arms (λ (m : Moved). Among (l ++ (12 ∷ 10 ∷ [])) (m .number)) (isUp (endAt (c .ends) i .channel)) _ _ (λ t. refl) (λ f. ten)
+down-among unknown c = refl
+down-among (known i n) c =
+    if-arms (λ (m : Moved). Among (bookNumbers ++ (12 ∷ 10 ∷ [])) (m .number)) (isUp (endAt (c .ends) i .channel)) _ _
+      (λ t. refl) (λ f. refl)
 
 happens-among : (book : Book) (c : Connection) (e : Event) → Among (refusals (event e)) (happens book c e .number)
 unfolding happens refusals member
 happens-among book c Up =
     if-arms (λ (m : Moved). Among (refusals (event Up)) (m .number)) (eqb (awaiting (c .ends)) 0) _ _ (λ t. refl) (λ f. refl)
-happens-among book c (Down s) = down-among bookNumbers (find s book) c refl
+happens-among book c (Down s) = down-among (find s book) c
 happens-among book c Lost = refl
 
 event-among : (b saved : List ℕ) (e : Event) → Among (refusals (event e)) (refusalOf b saved)
@@ -216,7 +217,8 @@ unfolding eventCall kept refusedWith
 event-listed b saved e =
     let m = happens (bookOf b) (connectionIn (length (bookOf b)) saved) e in
     let n = numberOr (refusalOf b saved) (m .number) in
-    let among = or-among (refusals (event e)) (refusalOf b saved) (m .number) (event-among b saved e) (happens-among (bookOf b) _ e) in
+    let among =
+          or-among (refusals (event e)) (refusalOf b saved) (m .number) (event-among b saved e) (happens-among (bookOf b) _ e) in
     if-arms (λ (k : Kept). Listed saved (event e) (kept k)) (eqb n 0) _ _ (λ t. happened e _)
       (λ f. refused (event e) n (among-refused (refusals (event e)) n among f))
 

@@ -1,5 +1,5 @@
--- What a lent area holds makes no difference to what is compared of an answer: the calls test only its length, and of the area at exit
--- the octets are compared that the call itself wrote at its front.
+-- What a lent area holds makes no difference to what is compared of an answer: the calls test only its length, and of the area
+-- at exit the octets are compared that the call itself wrote at its front.
 use Prim.Native.Nat.{ℕ}
 use mathlib.Core.Path.{_≡_, refl, sym, ap, ap₂, _∙_}
 use mathlib.Core.List.{List, [], _∷_, map}
@@ -15,10 +15,10 @@ use Rattle.rules.specs.Cutting.{packetAt}
 use Rattle.rules.specs.Endpoints.{Ends, Connection}
 use Rattle.rules.specs.Saved.{connectionIn, store}
 use Rattle.rules.specs.Commands.{Reply, silence, generalReject, accept, reject, answer}
-use Rattle.rules.specs.Host.{nothingSaid, said, toldOf, payloadOf, Turn, turnOf, takes, packetRefusal, Answered, packetCall}
-use Rattle.rules.specs.Host.{cutRefusal, cutCall, Cut}
-use Rattle.rules.specs.Sessions.{Call, check, fresh, packet, event, settings, delay, packets, cut, Answer, told, cutOff}
-use Rattle.rules.specs.Sessions.{answered, asked, call, answers, after}
+use Rattle.rules.specs.Host.{nothingSaid, said, toldOf, payloadOf, Turn, turnOf, takes, packetRefusal, Answered}
+use Rattle.rules.specs.Host.{packetCall, cutRefusal, cutCall, Cut}
+use Rattle.rules.specs.Sessions.{Call, check, fresh, packet, event, settings, delay, packets, cut, told, cutOff, answered}
+use Rattle.rules.specs.Sessions.{asked, call, answers, after}
 use Rattle.rules.specs.Alike.{restrained, afterEvent, cleared, compared}
 
 -- ---- What is written is read at the front

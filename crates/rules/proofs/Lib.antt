@@ -24,6 +24,7 @@ pub mod EveryAnswer
 pub mod Moves
 pub mod View
 pub mod Seen
+pub mod StoppedSeen
 pub mod AlikeStep
 pub mod QuietStep
 pub mod LentAreas

@@ -10,8 +10,8 @@ use lib.Dec.{leb, ltb, eqb}
 use borrow.Author.Tests.{ltb-true, ltb-false, lt-leb, le-leb}
 use Rattle.rules.proofs.Tests.{Told?, passed, failed, told, and-l, and-r, not-passed}
 use Rattle.rules.proofs.Outcomes.{if-arms}
-use Rattle.rules.proofs.AlikeStep.{alike-shown, AlikeBooks, alike-books, fresh-same, FoundAlike, both-unknown, both-known}
-use Rattle.rules.proofs.AlikeStep.{find-alike, answer-same, happens-same}
+use Rattle.rules.proofs.AlikeStep.{alike-shown, AlikeBooks, alike-books, fresh-same, FoundAlike, both-unknown}
+use Rattle.rules.proofs.AlikeStep.{both-known, find-alike, answer-same, happens-same}
 use Rattle.rules.proofs.QuietStep.{quietEnds, quiet-unreported, fresh-quiet, answer-quiet, happens-quiet}
 use Rattle.rules.proofs.View.{packetNumber, says, goes, View, Stepped, view-step, begins-view}
 use Rattle.rules.proofs.LentAreas.{answers-cleared, after-cleared, restrained-cleared}
@@ -19,8 +19,8 @@ use Rattle.rules.specs.Octets.{if_then_else_, isEmpty}
 use Rattle.rules.specs.Elements.{items}
 use Rattle.rules.specs.Book.{Entry, Book, Found, unknown, known, find, bookNumber, bookOf, written, upToCodec, shownBy02}
 use Rattle.rules.specs.Packets.{Message, Gathering, sizeRight, gather}
-use Rattle.rules.specs.Endpoints.{Ends, Connection, freshConnection, isUp, endAt, awaiting, withEnds, Moved}
-use Rattle.rules.specs.Endpoints.{downAt, happens}
+use Rattle.rules.specs.Endpoints.{Ends, Connection, freshConnection, isUp, endAt, awaiting, withEnds, Moved, downAt}
+use Rattle.rules.specs.Endpoints.{happens}
 use Rattle.rules.specs.Saved.{connectionIn}
 use Rattle.rules.specs.Host.{turnOf, takes, settingsOf, shownAt, Heard, heardAt}
 use Rattle.rules.specs.Sessions
@@ -87,11 +87,13 @@ unfolding shownBy02
 settings-same n n′ config e = go (isEmpty config)
   where
     go : (t : Bool)
-        → written (upToCodec (items (if t then n .caps else config))) ≡ written (upToCodec (items (if t then n′ .caps else config)))
+        → written (upToCodec (items (if t then n .caps else config)))
+          ≡ written (upToCodec (items (if t then n′ .caps else config)))
     go true = alike-shown n n′ e
     go false = refl
 
-shown-same : (f f′ : Found) (ends : Ends) → FoundAlike f f′ → compared (shown (shownAt f ends)) ≡ compared (shown (shownAt f′ ends))
+shown-same : (f f′ : Found) (ends : Ends) → FoundAlike f f′
+    → compared (shown (shownAt f ends)) ≡ compared (shown (shownAt f′ ends))
 unfolding shownAt settingsOf compared
 shown-same f f′ ends both-unknown = refl
 shown-same f f′ ends (both-known i n n′ e) =
@@ -199,8 +201,9 @@ begun-alike b b′ s s′ calls ok ok′ e begins begins′ r =
     alike-on b b′ ok ok′ same calls s s′ (freshConnection (bookOf b)) (begins-view b s ok begins)
       (rw (fresh-same same) (begins-view b′ s′ ok′ begins′)) (fresh-quiet (bookOf b)) r
 
--- Two bridges whose books differ only in which endpoints offer delay reporting, each fresh or just lost, behave alike towards a far
--- end that never uses delay reporting, whatever the areas hold that their hosts lend them, and no endpoint shows a reported delay.
+-- Two bridges whose books differ only in which endpoints offer delay reporting, each fresh or just lost, behave alike towards a
+-- far end that never uses delay reporting, whatever the areas hold that their hosts lend them, and no endpoint shows a reported
+-- delay.
 pub quiet : (b b′ s s′ : List ℕ) (calls calls′ : List Call) → bookNumber b ≡ 0 → bookNumber b′ ≡ 0
     → alike (bookOf b) (bookOf b′) ≡ true → Begins b s → Begins b′ s′ → map cleared calls ≡ map cleared calls′
     → restrained none calls ≡ true → Alike b b′ s s′ calls calls′

@@ -13,7 +13,8 @@ use Rattle.rules.specs.Endpoints.{endAt}
 use Rattle.rules.specs.Saved.{connectionIn}
 use Rattle.rules.specs.Host.{freshCall, eventCall, settingsCall, delayCall}
 use Rattle.rules.specs.Sessions.{Call, packet, event, settings, delay, after}
-use Rattle.rules.specs.Alike.{alikeEntry, alike, usesDelay, usesIn, afterEvent, restrained, Begins, begun, lost, cleared, Alike}
+use Rattle.rules.specs.Alike.{alikeEntry, alike, usesDelay, usesIn, afterEvent, restrained, Begins, begun, lost, cleared}
+use Rattle.rules.specs.Alike.{Alike}
 use Rattle.rules.specs.Computed.{computed}
 use Rattle.rules.specs.Table.{traceBook, replyArea, setConfiguration1}
 use Rattle.rules.specs.declared.State.the-variants.{Streaming}
@@ -27,8 +28,8 @@ plainBook =
     ∷ 0x01 ∷ 0x00 ∷ 0x0A ∷ 0x01 ∷ 0x00 ∷ 0x07 ∷ 0x06 ∷ 0x00 ∷ 0x00 ∷ 0xFF ∷ 0xFF ∷ 0x02 ∷ 0x35
     ∷ 0x05 ∷ 0x08 ∷ 0x0A ∷ 0x01 ∷ 0x00 ∷ 0x07 ∷ 0x06 ∷ 0x00 ∷ 0x00 ∷ 0xFF ∷ 0xFF ∷ 0x02 ∷ 0x35 ∷ []
 
--- The host asks for the settings of endpoint 1. Discover, Get Capabilities, Set Configuration without category 8, Open, the channel
--- comes up, Start, and the host asks for the delay.
+-- The host asks for the settings of endpoint 1. Discover, Get Capabilities, Set Configuration without category 8, Open, the
+-- channel comes up, Start, and the host asks for the delay.
 unfoldable pub headsetCalls : List ℕ → List Call
 headsetCalls area =
     settings (record { 0 = 1 })

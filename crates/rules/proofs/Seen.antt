@@ -61,7 +61,8 @@ typeIn (heard h) = 0
 typeIn (counted n) = 0
 typeIn (cutOff c) = 0
 
-module _ (b : List ℕ) (size : ℕ) (saved p reply : List ℕ) (ok : bookNumber b ≡ 0) (right : savedRight (bookOf b) saved ≡ true) where
+module _ (b : List ℕ) (size : ℕ) (saved p reply : List ℕ) (ok : bookNumber b ≡ 0)
+    (right : savedRight (bookOf b) saved ≡ true) where
   start : Connection
   start = connectionIn (length (bookOf b)) saved
 

@@ -1,4 +1,5 @@
--- A call that is not refused was given a right book and a right saved area: a chain of tests that gives 0 has failed at none of them.
+-- A call that is not refused was given a right book and a right saved area: a chain of tests that gives 0 has failed at none of
+-- them.
 use Prim.Native.Nat.{ℕ, zero, suc}
 use native.Mathlib.Omega.{arith}
 use mathlib.Core.Path.{_≡_, refl}

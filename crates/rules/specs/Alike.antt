@@ -1,5 +1,5 @@
--- The words of demand 3: books that differ only in which endpoints offer delay reporting, a far end that never uses it, where the two
--- bridges begin, and what it is that they behave alike.
+-- The words of demand 3: books that differ only in which endpoints offer delay reporting, a far end that never uses it, where
+-- the two bridges begin, and what it is that they behave alike.
 use Prim.Native.Nat.{ℕ}
 use mathlib.Core.Path.{_≡_}
 use mathlib.Core.List.{List, [], _∷_, map}
@@ -15,8 +15,8 @@ use Rattle.rules.specs.Endpoints.{Ends, isReported}
 use Rattle.rules.specs.Saved.{connectionIn}
 use Rattle.rules.specs.Host.{freshCall, eventCall}
 use Rattle.rules.specs.Sessions
-use Rattle.rules.specs.Sessions.{Call, check, fresh, packet, event, settings, delay, packets, cut}
-use Rattle.rules.specs.Sessions.{Answer, number, told, shown, heard, counted, cutOff, after}
+use Rattle.rules.specs.Sessions.{Call, check, fresh, packet, event, settings, delay, packets, cut, Answer, number, told}
+use Rattle.rules.specs.Sessions.{shown, heard, counted, cutOff, after}
 use Rattle.rules.specs.declared.Event.{Event}
 use Rattle.rules.specs.declared.Event.the-variants.{Up, Down, Lost}
 
@@ -89,8 +89,8 @@ cleared (delay s) = delay s
 cleared (packets size n) = packets size n
 cleared (cut size m k area) = cut size m k (replicate (length area) 0)
 
--- What is compared of an answer: all of it, but of a lent area only what was written at its front, and of the part that `settings`
--- shows only the elements of categories 1 to 7, as 02 shows them of an entry.
+-- What is compared of an answer: all of it, but of a lent area only what was written at its front, and of the part that
+-- `settings` shows only the elements of categories 1 to 7, as 02 shows them of an entry.
 unfoldable pub compared : Answer → Answer
 compared (number n) = number n
 compared (told t reply) = told t (take (t .length) reply)
@@ -99,8 +99,8 @@ compared (heard h) = heard h
 compared (counted n) = counted n
 compared (cutOff c) = cutOff (record { number = c .number; length = c .length; area = take (c .length) (c .area) })
 
--- Two bridges, each with its book, its saved area and its calls: alike are the answers and the connections that they end with, and no
--- endpoint shows a reported delay.
+-- Two bridges, each with its book, its saved area and its calls: alike are the answers and the connections that they end with,
+-- and no endpoint shows a reported delay.
 pub record Alike (b b′ s s′ : List ℕ) (calls calls′ : List Call) : Type 0 where
   pub answers : map compared (Sessions.answers b s calls) ≡ map compared (Sessions.answers b′ s′ calls′)
   pub connections :

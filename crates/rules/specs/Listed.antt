@@ -1,5 +1,5 @@
--- The words of "every answer is a reply, silence, or a number of the list" (document 01, What the host is told): the numbers that each
--- call can refuse with, what a refusal is, and what an answer that is none can be.
+-- The words of "every answer is a reply, silence, or a number of the list" (document 01, What the host is told): the numbers
+-- that each call can refuse with, what a refusal is, and what an answer that is none can be.
 use Prim.Native.Nat.{ℕ, _≤_, _<_}
 use mathlib.Core.Path.{_≡_}
 use mathlib.Core.List.{List, [], _∷_, _++_}
@@ -10,8 +10,8 @@ use Rattle.rules.specs.Octets.{member, isEmpty, front, between}
 use Rattle.rules.specs.Packets.{Message}
 use Rattle.rules.specs.Host
 use Rattle.rules.specs.Host.{nothingSaid}
-use Rattle.rules.specs.Sessions.{Call, check, fresh, packet, event, settings, delay, packets, cut}
-use Rattle.rules.specs.Sessions.{Answer, number, told, shown, heard, counted, cutOff, Done}
+use Rattle.rules.specs.Sessions.{Call, check, fresh, packet, event, settings, delay, packets, cut, Answer, number, told}
+use Rattle.rules.specs.Sessions.{shown, heard, counted, cutOff, Done}
 use Rattle.rules.specs.declared.OurSeid.{OurSeid}
 use Rattle.rules.specs.declared.Delay.{Delay}
 use Rattle.rules.specs.declared.Delay.the-variants.{Unreported}
@@ -35,8 +35,8 @@ is12 a = eqb (numberIn a) 12
 abbrev pub bookNumbers : List ℕ
 bookNumbers = 1 ∷ 2 ∷ 3 ∷ 4 ∷ 5 ∷ 6 ∷ 7 ∷ []
 
--- The numbers that a call can refuse with, in the order of their tests. Link loss always applies; the number of packets is a count,
--- and refused where it is 0.
+-- The numbers that a call can refuse with, in the order of their tests. Link loss always applies; the number of packets is a
+-- count, and refused where it is 0.
 unfoldable pub refusals : Call → List ℕ
 refusals check = bookNumbers
 refusals fresh = bookNumbers ++ (12 ∷ [])
@@ -64,7 +64,8 @@ refusedWith (cut size m k area) n = cutOff (record { number = n; length = 0; are
 
 -- What a call can come to: its answer, and the saved area at exit.
 pub data Listed (saved : List ℕ) : Call → Done → Type 0 where
-  refused : (c : Call) (n : ℕ) → member n (refusals c) ≡ true → Listed saved c (record { answer = refusedWith c n; saved = saved })
+  refused : (c : Call) (n : ℕ) → member n (refusals c) ≡ true
+    → Listed saved c (record { answer = refusedWith c n; saved = saved })
   checked : Listed saved check (record { answer = number 0; saved = saved })
   begun : (next : List ℕ) → Listed saved fresh (record { answer = number 0; saved = next })
   -- silence: zero in all fields, and nothing written
