@@ -13,7 +13,7 @@ use Rattle.rules.proofs.Outcomes.{if-arms}
 use Rattle.rules.proofs.AlikeStep.{alike-shown, AlikeBooks, alike-books, fresh-same, FoundAlike, both-unknown}
 use Rattle.rules.proofs.AlikeStep.{both-known, find-alike, answer-same, happens-same}
 use Rattle.rules.proofs.QuietStep.{quietEnds, quiet-unreported, fresh-quiet, answer-quiet, happens-quiet}
-use Rattle.rules.proofs.View.{packetNumber, says, goes, View, Stepped, view-step, begins-view}
+use Rattle.rules.proofs.View.{view-step, begins-view}
 use Rattle.rules.proofs.LentAreas.{answers-cleared, after-cleared, restrained-cleared}
 use Rattle.rules.specs.Octets.{if_then_else_, isEmpty}
 use Rattle.rules.specs.Elements.{items}
@@ -26,6 +26,7 @@ use Rattle.rules.specs.Host.{turnOf, takes, settingsOf, shownAt, Heard, 
 use Rattle.rules.specs.Sessions
 use Rattle.rules.specs.Sessions.{Call, check, fresh, packet, event, settings, delay, packets, cut, number, shown, heard}
 use Rattle.rules.specs.Sessions.{call, after}
+use Rattle.rules.specs.Views.{packetNumber, says, goes, View, Stepped}
 use Rattle.rules.specs.Alike.{alikeEntry, alike, usesIn, afterEvent, restrained, Begins, cleared, compared, Alike}
 use Rattle.rules.specs.declared.Event.{Event}
 use Rattle.rules.specs.declared.Event.the-variants.{Down, Lost}

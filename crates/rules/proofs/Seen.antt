@@ -1,36 +1,44 @@
 -- The theorems on endpoints, of what the saved octets show: a call on a right area is a step of the connection that it shows.
-use Prim.Native.Nat.{ℕ}
+use Prim.Native.Nat.{ℕ, zero, suc}
 use mathlib.Core.Path.{_≡_, refl, ap, _∙_}
-use mathlib.Core.List.{List}
+use mathlib.Core.List.{List, [], _∷_}
 use mathlib.Core.Bool.{true, false}
 use mathlib.Core.Option.{Option, none, some}
 use lib.ListN.{length}
 use lib.Dec.{eqb}
-use Rattle.rules.specs.Book.{Entry, Book, bookNumber, bookOf}
+use Rattle.rules.specs.Book.{Book, bookNumber, bookOf}
 use Rattle.rules.specs.Packets.{Message, Gathering, gather}
-use Rattle.rules.specs.Endpoints.{Ends, Connection, endAt, idle}
+use Rattle.rules.specs.Endpoints.{Ends, Connection, endAt, idle, legalEnd, legalEnds}
 use Rattle.rules.specs.Saved.{connectionIn, savedRight}
 use Rattle.rules.specs.Commands.{Reply, silence, generalReject, accept, reject, answer}
 use Rattle.rules.specs.Host.{toldOf, said, turnOf, takes, packetCall}
 use Rattle.rules.specs.Sessions.{Call, packet, Answer, number, told, shown, heard, counted, cutOff, call, answered, after}
+use Rattle.rules.specs.Views.{Stepped, packetNumber, says, goes}
 use Rattle.rules.specs.Moves.{isAccept, turnsIn}
 use Rattle.rules.specs.declared.State.the-variants.{Idle}
-use Rattle.rules.proofs.Tests.{Told?, passed, failed, told as told?}
-use Rattle.rules.proofs.Places.{At, legal-at}
+use Rattle.rules.proofs.Tests.{Told?, passed, failed, told as told?, clash, and-l, and-r}
 use Rattle.rules.proofs.StaysLegal.{legal-ends, idle-forgets}
 use Rattle.rules.proofs.SavedStaysRight.{always-legal, right-legal}
 use Rattle.rules.proofs.Moves.{unmoved}
-use Rattle.rules.proofs.View.{Stepped, packetNumber, says, goes, view-step}
+use Rattle.rules.proofs.View.{view-step}
 
 -- An endpoint that is idle after any calls has no configuration, no far SEID, no delay and no channel, whatever made it idle.
-pub idle-after : (b saved : List ℕ) → bookNumber b ≡ 0 → savedRight (bookOf b) saved ≡ true → (calls : List Call)
-  → (i : ℕ) (n : Entry) → At (bookOf b) i n
+idle-at : (book : Book) (ends : Ends) → legalEnds book ends ≡ true → (i : ℕ) → endAt ends i .state ≡ Idle
+  → endAt ends i ≡ idle (endAt ends i .seid)
+unfolding legalEnds endAt idle
+idle-at [] [] lawful i e = refl
+idle-at (n ∷ book) [] lawful i e = refl
+idle-at [] (x ∷ ends) lawful i e = clash lawful refl
+idle-at (n ∷ book) (x ∷ ends) lawful zero e = idle-forgets n x (and-l (legalEnd n x) (legalEnds book ends) lawful) e
+idle-at (n ∷ book) (x ∷ ends) lawful (suc i) e = idle-at book ends (and-r (legalEnd n x) (legalEnds book ends) lawful) i e
+
+pub idle-after : (b saved : List ℕ) → bookNumber b ≡ 0 → savedRight (bookOf b) saved ≡ true → (calls : List Call) (i : ℕ)
   → let e = endAt (connectionIn (length (bookOf b)) (after b saved calls) .ends) i in e .state ≡ Idle → e ≡ idle (e .seid)
-idle-after b saved ok right calls i n place =
+idle-after b saved ok right calls =
     let book = bookOf b in
     let c = connectionIn (length book) (after b saved calls) in
     let lawful = legal-ends book c (right-legal book (after b saved calls) (always-legal b saved ok right calls)) in
-    idle-forgets n (endAt (c .ends) i) (legal-at place (c .ends) (lawful .every))
+    idle-at book (c .ends) (lawful .every)
 
 -- not accepted: the message type is not 2
 type-of : (m : Message) (r : Reply) → (toldOf m r .type ≡ 2 → ⊥) → isAccept r ≡ false

@@ -20,13 +20,14 @@ use Rattle.rules.specs.Commands.{obey, answer}
 use Rattle.rules.specs.Host.{Told, toldOf, said, nothingSaid, payloadOf, turnOf, takes, packetCall, freshCall}
 use Rattle.rules.specs.Sessions.{packet, event, Answer, number, told, shown, heard, counted, cutOff, call, answered}
 use Rattle.rules.specs.Sessions.{after}
+use Rattle.rules.specs.Views.{Stepped, packetNumber, says, goes}
 use Rattle.rules.specs.Moves.{Stopped, isAccept, turns, mayTurn, turnsTo, RejectSeen, StoppedSeen}
 use Rattle.rules.specs.Table.{traceBook, replyArea, setConfiguration1}
 use Rattle.rules.specs.declared.Event.{Event}
 use Rattle.rules.proofs.Tests.{Told?, passed, failed, told as whether, and-l, and-r, clash}
 use Rattle.rules.proofs.SavedStaysRight.{always-legal, trace-book-right, trace-area-right}
 use Rattle.rules.proofs.Moves.{start-stops, suspend-stops, start-of-none, suspend-of-none}
-use Rattle.rules.proofs.View.{Stepped, packetNumber, says, goes, view-step}
+use Rattle.rules.proofs.View.{view-step}
 
 -- ---- A Start or a Suspend, by its signal
 

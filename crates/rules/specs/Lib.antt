@@ -10,6 +10,7 @@ pub mod Commands
 pub mod Host
 pub mod Sessions
 pub mod Listed
+pub mod Views
 pub mod Walks
 pub mod Wires
 pub mod Answers
