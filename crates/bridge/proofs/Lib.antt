@@ -4,5 +4,3 @@ pub mod Asked
 pub mod Happened
 pub mod Freshened
 pub mod Unique
-pub mod AllHosts
-pub mod ShutOut

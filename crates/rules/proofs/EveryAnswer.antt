@@ -32,7 +32,7 @@ use Rattle.rules.specs.declared.Event.{Event}
 use Rattle.rules.specs.declared.Event.the-variants.{Up, Down, Lost}
 use Rattle.rules.proofs.Tests.{Told?, passed, failed, told as whether, and-l, and-r, between-least, clash}
 use Rattle.rules.proofs.Unrefused.{Unrefused, none-refused, packet-unrefused}
-use Rattle.rules.proofs.SettingsShown.{settings-there}
+use Rattle.rules.proofs.SettingsShown.{settings-there, settings-short}
 use Rattle.rules.proofs.RightBook.{not-failed, entryRight, right-book}
 use Rattle.rules.proofs.Places.{find-known}
 use Rattle.rules.proofs.Outcomes.{if-arms}
@@ -226,11 +226,12 @@ event-listed b saved e =
 
 module _ (b saved : List ℕ) (s : OurSeid) where
   found-listed : (f : Found) (ends : Ends) → ((i : ℕ) (n : Entry) → f ≡ known i n → entryRight n ≡ true)
+      → length (shownAt f ends .part) ≤ 64
       → Listed saved (settings s) (record { answer = shown (shownAt f ends); saved = saved })
   unfolding shownAt refusals refusedWith member
-  found-listed unknown ends right = refused (settings s) 10 refl
-  found-listed (known i n) ends right =
-      shows s (settingsOf n (endAt ends i)) (settings-there n (endAt ends i) (right i n refl))
+  found-listed unknown ends right short = refused (settings s) 10 refl
+  found-listed (known i n) ends right short =
+      shows s (settingsOf n (endAt ends i)) (settings-there n (endAt ends i) (right i n refl)) short
 
   settings-listed : Listed saved (settings s) (asked saved (shown (settingsCall b saved s)))
   unfolding settingsCall asked refusals refusedWith
@@ -239,7 +240,8 @@ module _ (b saved : List ℕ) (s : OurSeid) where
       if-arms (λ (x : Shown). Listed saved (settings s) (record { answer = shown x; saved = saved })) (eqb n 0) _ _
         (λ t.
           let right = right-book b (none-refused b saved (eqb-true n 0 t) .book) in
-          found-listed (find s (bookOf b)) _ (λ i e f. entry-at (find-known s (bookOf b) i e f .place) (right .entries)))
+          found-listed (find s (bookOf b)) _ (λ i e f. entry-at (find-known s (bookOf b) i e f .place) (right .entries))
+            (rw t at (settings-short b saved s)))
         (λ f. refused (settings s) n (among-refused (bookNumbers ++ (12 ∷ 10 ∷ [])) n (asked-among b saved) f))
 
   delay-found : (f : Found) (ends : Ends) → Listed saved (delay s) (record { answer = heard (heardAt f ends); saved = saved })

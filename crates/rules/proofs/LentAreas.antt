@@ -23,7 +23,7 @@ use Rattle.rules.specs.Alike.{restrained, afterEvent, cleared, compared}
 
 -- ---- What is written is read at the front
 
-front-read : (s area : List ℕ) → take (length s) (front s area) ≡ s
+pub front-read : (s area : List ℕ) → take (length s) (front s area) ≡ s
 unfolding front
 front-read s area = take-append-seam s (drop (length s) area)
 

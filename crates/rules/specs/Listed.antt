@@ -82,7 +82,7 @@ pub data Listed (saved : List ℕ) : Call → Done → Type 0 where
            saved = next
          })
   happened : (e : Event) (next : List ℕ) → Listed saved (event e) (record { answer = number 0; saved = next })
-  shows : (s : OurSeid) (part : List ℕ) → isEmpty part ≡ false
+  shows : (s : OurSeid) (part : List ℕ) → isEmpty part ≡ false → length part ≤ 64
     → Listed saved (settings s) (record { answer = shown (record { number = 0; part = part }); saved = saved })
   hears : (s : OurSeid) (d : Delay) → Listed saved (delay s) (record { answer = heard (Host.heard 0 d); saved = saved })
   counts : (size n k : ℕ) → k ≤ 11 → Listed saved (packets size n) (record { answer = counted k; saved = saved })
