@@ -19,7 +19,7 @@ use Rattle.rules.specs.Sessions
 use Rattle.rules.specs.Sessions.{check, fresh, packet, event, settings, delay, packets, cut, number, told, shown, heard}
 use Rattle.rules.specs.Sessions.{counted, cutOff, Done, answered, call, answers, after}
 use Rattle.rules.specs.Listed.{EachListed}
-use Rattle.rules.specs.Moves.{turns, StoppedSeen}
+use Rattle.rules.specs.Moves.{turns, turnsIn, StoppedSeen}
 use Rattle.rules.specs.Alike.{alike, restrained, Begins, cleared, compared}
 use Rattle.rules.specs.declared.State.the-variants.{Idle}
 use Rattle.rules.specs.declared.Told.{Told as ToldBy}
@@ -27,7 +27,7 @@ use Rattle.rules.proofs.LentAreas.{front-read}
 use Rattle.rules.proofs.SavedStaysRight.{always-legal}
 use Rattle.rules.proofs.Never12.{none-answers-12}
 use Rattle.rules.proofs.EveryAnswer.{all-answers}
-use Rattle.rules.proofs.Seen.{idle-after}
+use Rattle.rules.proofs.Seen.{idle-after, packet-unmoved}
 use Rattle.rules.proofs.StoppedSeen.{packet-stopped}
 use Rattle.rules.proofs.Quiet.{quiet}
 use Rattle.bridge_step.specs.declared.Call.the-variants as Call
@@ -145,6 +145,19 @@ unfolding exitOf callBy call answered answerIn areaAfter readBy toldIn
 packet-made book saved p reply room size t next reply′ room′ e =
     ap (λ (x : Exit). record { told = toldIn (readBy (x .answer) [] []); saved = x .saved; reply = x .area }) e
 
+-- A packet that completes no Start and no Suspend and is not answered with an accept moves no endpoint.
+pub hosts-unmoved : (book saved : List ℕ) (asks : List Asked) (said : List Sessions.Answer) (last : List ℕ) → bookNumber book ≡ 0
+  → savedRight (bookOf book) saved ≡ true → Runs book saved asks said last
+  → (size : ℕ) (p reply room : List ℕ) (t : ToldBy) (next reply′ room′ : List ℕ)
+  → Steps book last (Call.Packet size) p reply room (Answer.Told t) next reply′ room′
+  → turnsIn (gather size (connectionIn (length (bookOf book)) last .gathering) p .done) ≡ false → (t .kind ≡ 2 → ⊥)
+  → connectionIn (length (bookOf book)) next .ends ≡ connectionIn (length (bookOf book)) last .ends
+hosts-unmoved book saved asks said last ok right runs size p reply room t next reply′ room′ step other refused =
+    let legal = hosts-legal book saved asks said last ok right runs .right in
+    let e = packet-made book last p reply room size t next reply′ room′ step in
+    ap (λ (a : Answered). connectionIn (length (bookOf book)) (a .saved) .ends) e
+    ∙ packet-unmoved book size last p reply ok legal other (λ k. refused (ap (λ (a : Answered). a .told .type) e ∙ k))
+
 -- A Start or a Suspend that a packet completes after any run and that is answered with a reject has moved exactly the endpoints
 -- listed before the one that failed, and the reply names it.
 pub hosts-stopped : (book saved : List ℕ) (asks : List Asked) (said : List Sessions.Answer) (last : List ℕ) → bookNumber book ≡ 0
@@ -162,10 +175,11 @@ hosts-stopped book saved asks said last ok right runs size p reply room t next r
       (packet-stopped book size last p reply ok legal m done turn lists
          (sym (ap (λ (a : Answered). a .told .type) e) ∙ rejected))
 
--- ---- Demand 3 of what runs: two hosts over books that differ only in which endpoints offer delay reporting, each fresh or just lost,
--- that make the same calls, with any areas of the same lengths, for a far end that never uses it, get the same answers and the
--- same connection, and no endpoint shows a reported delay
+-- ---- Demand 3 of what runs
 
+-- Two hosts over books that differ only in which endpoints offer delay reporting, each fresh or just lost, that make the same
+-- calls, with any areas of the same lengths, for a far end that never uses it, get the same answers and the same connection,
+-- and no endpoint shows a reported delay.
 pub hosts-quiet : (b b′ s s′ : List ℕ) (asks asks′ : List Asked) (said said′ : List Sessions.Answer) (last last′ : List ℕ)
   → bookNumber b ≡ 0 → bookNumber b′ ≡ 0 → alike (bookOf b) (bookOf b′) ≡ true → Begins b s → Begins b′ s′
   → map cleared (map callOf asks) ≡ map cleared (map callOf asks′) → restrained none (map callOf asks) ≡ true

@@ -31,7 +31,8 @@ module _ (book saved : List ℕ) (k : Call) (input area room : List ℕ) where
   freshens is n next e =
       rw is (ap (λ (x : Kept). record { answer = Number (x .number); saved = x .saved; area = area; room = room }) e)
 
-  pub takes : (size : ℕ) → k ≡ Call.Packet size → (t : ToldBy) (next reply : List ℕ) → Takes book size saved input area t next reply
+  pub takes : (size : ℕ) → k ≡ Call.Packet size → (t : ToldBy) (next reply : List ℕ)
+    → Takes book size saved input area t next reply
     → Steps book saved k input area room (Told t) next reply room
   unfolding exitOf callBy call answered answerIn areaAfter roomAfter
   takes size is t next reply e =

@@ -1,5 +1,5 @@
-// Every call of the bridge by one function: what a host does is a row of its steps. It adds nothing to the calls, and its contract is
-// the step of the definitions' sequences, so that what is proved of sequences holds of every host.
+// Every call of the bridge by one function: what a host does is a row of its steps. It adds nothing to the calls, and its contract
+// is the step of the definitions' sequences, so that what is proved of sequences holds of every host.
 use rules::Event;
 use rules::Heard;
 use rules::OurSeid;
@@ -9,7 +9,8 @@ use rules::Told;
 ghost use mathlib.Core.Path.{_≡_};
 ghost use Rattle.bridge_step.specs.Steps.{Steps, Copied, copiedOf};
 
-// A call with the numbers that it takes. The octets that it reads, a packet or a payload, and the area that it lends stand beside it.
+// A call with the numbers that it takes. The octets that it reads, a packet or a payload, and the area that it lends stand beside
+// it.
 pub enum Call {
     Check,
     Fresh,
@@ -21,7 +22,8 @@ pub enum Call {
     Cut { size: usize, label: u8, kind: u8, signal: u8, index: usize },
 }
 
-// What a call answers. Of the part that `settings` shows the length is told; its octets stand at the front of a room of their own.
+// What a call answers. Of the part that `settings` shows the length is told; its octets stand at the front of a room of their
+// own.
 pub enum Answer {
     Number(u8),
     Told(Told),

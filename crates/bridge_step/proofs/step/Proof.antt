@@ -62,8 +62,8 @@ returns : tie.Need-returns
 returns c =
     let told = c .before in
     let args = start (told .before .before) .args in
-    checks (args .book .now) (args .saved .now) (args .call) (args .input .now) (args .area .now) (args .room .now) (told .enum-told .given .1) _
-      (c .check .ensures)
+    checks (args .book .now) (args .saved .now) (args .call) (args .input .now) (args .area .now) (args .room .now)
+      (told .enum-told .given .1) _ (c .check .ensures)
 
 same-length : tie.Need-same-length
 same-length c = search needs
@@ -73,8 +73,8 @@ returns-2 c =
     let made = c .before .before in
     let told = made .before .before in
     let args = start (told .before .before) .args in
-    freshens (args .book .now) (args .saved .now) (args .call) (args .input .now) (args .area .now) (args .room .now) (told .enum-told2 .given .1) _
-      _ (made .fresh .ensures)
+    freshens (args .book .now) (args .saved .now) (args .call) (args .input .now) (args .area .now) (args .room .now)
+      (told .enum-told2 .given .1) _ _ (made .fresh .ensures)
 
 same-length-2 : tie.Need-same-length-2
 same-length-2 c = search needs
@@ -87,8 +87,8 @@ returns-3 c =
     let made = c .before .before .before .before in
     let told = made .before .before .before .before in
     let args = start (told .before .before) .args in
-    takes (args .book .now) (args .saved .now) (args .call) (args .input .now) (args .area .now) (args .room .now) _ (told .call .given .1) _ _ _
-      (made .packet .ensures)
+    takes (args .book .now) (args .saved .now) (args .call) (args .input .now) (args .area .now) (args .room .now)
+      _ (told .call .given .1) _ _ _ (made .packet .ensures)
 
 same-length-4 : tie.Need-same-length-4
 same-length-4 c = search needs
@@ -98,8 +98,8 @@ returns-4 c =
     let made = c .before .before in
     let told = made .before .before .before in
     let args = start (told .before .before) .args in
-    happens (args .book .now) (args .saved .now) (args .call) (args .input .now) (args .area .now) (args .room .now) _ (told .call2 .given .1) _ _
-      (made .event .ensures)
+    happens (args .book .now) (args .saved .now) (args .call) (args .input .now) (args .area .now) (args .room .now)
+      _ (told .call2 .given .1) _ _ (made .event .ensures)
 
 same-length-5 : tie.Need-same-length-5
 same-length-5 c = search needs
@@ -109,8 +109,8 @@ returns-5 c =
     let asked = c .before .before .before in
     let told = asked .before .before .before in
     let args = start (told .before .before) .args in
-    shows (args .book .now) (args .saved .now) (args .call) (args .input .now) (args .area .now) (args .room .now) _ (told .call3 .given .1) _ _ _
-      (asked .settings-told .ensures) (c .copy-settings .ensures)
+    shows (args .book .now) (args .saved .now) (args .call) (args .input .now) (args .area .now) (args .room .now)
+      _ (told .call3 .given .1) _ _ _ (asked .settings-told .ensures) (c .copy-settings .ensures)
 
 same-length-6 : tie.Need-same-length-6
 same-length-6 c = search needs
@@ -119,15 +119,15 @@ returns-6 : tie.Need-returns-6
 returns-6 c =
     let told = c .before .before .before in
     let args = start (told .before .before) .args in
-    hears (args .book .now) (args .saved .now) (args .call) (args .input .now) (args .area .now) (args .room .now) _ (told .call4 .given .1) _
-      (c .delay .ensures)
+    hears (args .book .now) (args .saved .now) (args .call) (args .input .now) (args .area .now) (args .room .now)
+      _ (told .call4 .given .1) _ (c .delay .ensures)
 
 returns-7 : tie.Need-returns-7
 returns-7 c =
     let told = c .before .before in
     let args = start (told .before .before) .args in
-    counts (args .book .now) (args .saved .now) (args .call) (args .input .now) (args .area .now) (args .room .now) _ _ (told .call5 .given .1) _
-      (c .packets .ensures)
+    counts (args .book .now) (args .saved .now) (args .call) (args .input .now) (args .area .now) (args .room .now)
+      _ _ (told .call5 .given .1) _ (c .packets .ensures)
 
 same-length-7 : tie.Need-same-length-7
 same-length-7 c = search needs
@@ -137,8 +137,8 @@ returns-8 c =
     let made = c .before .before in
     let told = made .before .before .before in
     let args = start (told .before .before) .args in
-    cuts (args .book .now) (args .saved .now) (args .call) (args .input .now) (args .area .now) (args .room .now) _ _ _ _ _ (told .call6 .given .1) _ _
-      (made .cut .ensures)
+    cuts (args .book .now) (args .saved .now) (args .call) (args .input .now) (args .area .now) (args .room .now)
+      _ _ _ _ _ (told .call6 .given .1) _ _ (made .cut .ensures)
 
 pub step-spec : {M : Type 1} → statement M
 step-spec =
