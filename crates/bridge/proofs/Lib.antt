@@ -4,6 +4,3 @@ pub mod Asked
 pub mod Happened
 pub mod Freshened
 pub mod Unique
-pub mod SettingsShown
-pub mod AllHosts
-pub mod ShutOut

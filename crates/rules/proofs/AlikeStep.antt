@@ -44,7 +44,7 @@ alike-kind : (n n′ : Entry) → alikeEntry n n′ ≡ true → n .kind ≡ n�
 unfolding alikeEntry
 alike-kind n n′ e = eqb-true (n .kind) (n′ .kind) (search (and-l, and-r))
 
-alike-shown : (n n′ : Entry) → alikeEntry n n′ ≡ true → shownBy02 n ≡ shownBy02 n′
+pub alike-shown : (n n′ : Entry) → alikeEntry n n′ ≡ true → shownBy02 n ≡ shownBy02 n′
 unfolding alikeEntry
 alike-shown n n′ e = same-octets (shownBy02 n) (shownBy02 n′) (search (and-l, and-r))
 

@@ -18,11 +18,16 @@ pub mod ShortReplies
 pub mod SavedStaysRight
 pub mod Never12
 pub mod Refused
+pub mod Unrefused
+pub mod SettingsShown
+pub mod EveryAnswer
 pub mod Moves
 pub mod View
 pub mod Seen
+pub mod StoppedSeen
 pub mod AlikeStep
 pub mod QuietStep
+pub mod LentAreas
 pub mod Quiet
 pub mod QuietExample
 pub mod Instances

@@ -1,34 +1,34 @@
 -- On a right saved area no call answers number 12: where it could come from, the area passes, and every other number is at most
 -- 11.
-use Prim.Native.Nat.{ℕ, zero, suc, _+_, _-_, _≤_}
-use native.Mathlib.Nat.{le-trans, div-lt-iff-lt-mul}
+use Prim.Native.Nat.{ℕ, zero, suc, _≤_}
+use native.Mathlib.Nat.{le-trans}
 use native.Mathlib.Omega.{arith}
 use mathlib.Core.Path.{_≡_, refl, sym, ap, _∙_}
 use mathlib.Core.List.{List, [], _∷_}
-use mathlib.Core.Bool.{Bool, true, false, not, _&&_}
+use mathlib.Core.Bool.{true, false, not, _&&_}
 use lib.ListN.{length, take, drop, getD}
 use lib.Dec.{leb, ltb, eqb, lit≤}
-use borrow.Author.Tests.{leb-true, ne-eqb, le-ltb}
+use borrow.Author.Tests.{ne-eqb, le-ltb}
 use Rattle.rules.specs.Octets.{if_then_else_, between, sameOctets, isEmpty, some-of}
 use Rattle.rules.specs.Elements.{items}
 use Rattle.rules.specs.Book.{Book, kindRight, mediaType, listRight, entriesNumber, bookNumber, bookOf, Found, unknown}
 use Rattle.rules.specs.Book.{known, find}
 use Rattle.rules.specs.Packets.{Message, sizeRight, longest}
-use Rattle.rules.specs.Cutting.{avdtp, packetsFor, countOf, packetAt}
+use Rattle.rules.specs.Cutting.{countOf, packetAt}
 use Rattle.rules.specs.Endpoints.{Ends, Connection, isUp, awaiting, endAt, Moved, downAt, happens}
 use Rattle.rules.specs.Saved.{areaFor, connectionIn, savedRight}
 use Rattle.rules.specs.Host
 use Rattle.rules.specs.Host.{checkCall, numberOr, savedNumber, refusalOf, packetRefusal, Kept, freshCall, nothingSaid}
 use Rattle.rules.specs.Host.{Answered, packetCall, eventCall, Shown, shownAt, settingsCall, Heard, heardAt, delayCall}
-use Rattle.rules.specs.Host.{packetsCall, Cut, cutRefusal, cutCall}
-use Rattle.rules.specs.Sessions.{Call, check, fresh, packet, event, settingsTold, delay, packets, cut, Answer, number, told}
-use Rattle.rules.specs.Sessions.{heard, cutOff, kept, answered, asked, call, answers}
+use Rattle.rules.specs.Host.{Cut, cutRefusal, cutCall}
+use Rattle.rules.specs.Sessions.{Call, check, fresh, packet, event, settings, delay, packets, cut, kept, answered, asked}
+use Rattle.rules.specs.Sessions.{call, answers}
+use Rattle.rules.specs.Listed.{numberIn, is12}
 use Rattle.rules.specs.declared.OurSeid.{OurSeid}
 use Rattle.rules.specs.declared.Delay.{Delay}
 use Rattle.rules.specs.declared.Delay.the-variants.{Unreported, Reported}
 use Rattle.rules.specs.declared.Event.{Event}
 use Rattle.rules.specs.declared.Event.the-variants.{Up, Down, Lost}
-use Rattle.rules.proofs.Tests.{and-l, and-r, between-least}
 use Rattle.rules.proofs.Refused.{refused-packet}
 use Rattle.rules.proofs.Outcomes.{if-arms}
 use Rattle.rules.proofs.SavedStaysRight.{right-long, stays-legal}
@@ -164,23 +164,7 @@ module _ (b saved : List ℕ) (h : savedRight (bookOf b) saved ≡ true) where
       if-arms (λ (k : Heard). Not12 (k .number)) (eqb (refusalOf b saved) 0) _ _
         (λ t. heard-not-12 (find s (bookOf b)) _) (λ f. heard-number (refusalOf b saved) Unreported refusal-not-12)
 
--- ---- Calls that take no area
-
--- a message has at most 11 packets
-few-packets : (size n : ℕ) → 48 ≤ size → n ≤ 512 → packetsFor avdtp size n ≤ 11
-unfolding packetsFor
-few-packets size n s l =
-    if-arms (λ k. k ≤ 11) (leb n (size - 2)) 1 _ (λ t. lit≤ tt)
-      (λ f. div-lt-iff-lt-mul {k = size - 1} {x = n - (size - 3) + (size - 1 - 1)} {y = 11} (omega arith) .1 (omega arith))
-
-packets-not-12 : (size n : ℕ) → Not12 (packetsCall size n)
-unfolding packetsCall sizeRight longest
-packets-not-12 size n =
-    if-arms Not12 (sizeRight size && leb n longest) _ 0
-      (λ t.
-        let least = between-least 48 672 size (and-l (between 48 672 size) (leb n 512) t) in
-        below-12 (packetsFor avdtp size n) (few-packets size n least (leb-true n 512 (and-r (between 48 672 size) _ t))))
-      (λ f. below-12 0 (lit≤ tt))
+-- ---- The cutter
 
 cut-refusal-small : (size : ℕ) (m : Message) (k : ℕ) (area : List ℕ) → cutRefusal size m k area ≤ 11
 unfolding cutRefusal
@@ -202,25 +186,16 @@ cut-not-12 size m k area =
 
 -- ---- Every call, and every call of a sequence
 
-unfoldable pub numberIn : Answer → ℕ
-numberIn (number n) = n
-numberIn (told t reply) = t .number
-numberIn (heard h) = h .number
-numberIn (cutOff c) = c .number
-
 pub never-12 : (b saved : List ℕ) → savedRight (bookOf b) saved ≡ true → (c : Call) → numberIn (call b saved c .answer) ≡ 12 → ⊥
 unfolding call asked kept answered numberIn checkCall
 never-12 b saved h check = book-not-12 b
 never-12 b saved h fresh = fresh-not-12 b saved h
 never-12 b saved h (packet size p reply) = packet-not-12 b saved h size p reply
 never-12 b saved h (event e) = event-not-12 b saved h e
-never-12 b saved h (settingsTold s) = settings-not-12 b saved h s
+never-12 b saved h (settings s) = settings-not-12 b saved h s
 never-12 b saved h (delay s) = delay-not-12 b saved h s
-never-12 b saved h (packets size n) = packets-not-12 size n
+never-12 b saved h (packets size n) = below-12 0 (lit≤ tt)
 never-12 b saved h (cut size m k area) = cut-not-12 size m k area
-
-unfoldable pub is12 : Answer → Bool
-is12 a = eqb (numberIn a) 12
 
 pub none-answers-12 : (b saved : List ℕ) → bookNumber b ≡ 0 → savedRight (bookOf b) saved ≡ true → (calls : List Call)
     → some-of is12 (answers b saved calls) ≡ false

@@ -1,8 +1,8 @@
 -- Demand 3: both areas begin with the same fresh connection and go on to show one and the same connection, whose endpoints are
--- quiet, so each call is answered alike.
+-- quiet, so each call is answered alike; and what a lent area holds makes no difference to what is compared.
 use Prim.Native.Nat.{ℕ}
 use mathlib.Core.Path.{_≡_, refl, sym, ap, ap₂, _∙_}
-use mathlib.Core.List.{List, [], _∷_}
+use mathlib.Core.List.{List, [], _∷_, map}
 use mathlib.Core.Bool.{Bool, true, false, not, _&&_}
 use mathlib.Core.Option.{Option, none, some}
 use lib.ListN.{length}
@@ -10,21 +10,24 @@ use lib.Dec.{leb, ltb, eqb}
 use borrow.Author.Tests.{ltb-true, ltb-false, lt-leb, le-leb}
 use Rattle.rules.proofs.Tests.{Told?, passed, failed, told, and-l, and-r, not-passed}
 use Rattle.rules.proofs.Outcomes.{if-arms}
-use Rattle.rules.proofs.AlikeStep.{AlikeBooks, alike-books, fresh-same, FoundAlike, both-unknown, both-known, find-alike}
-use Rattle.rules.proofs.AlikeStep.{answer-same, happens-same}
+use Rattle.rules.proofs.AlikeStep.{alike-shown, AlikeBooks, alike-books, fresh-same, FoundAlike, both-unknown}
+use Rattle.rules.proofs.AlikeStep.{both-known, find-alike, answer-same, happens-same}
 use Rattle.rules.proofs.QuietStep.{quietEnds, quiet-unreported, fresh-quiet, answer-quiet, happens-quiet}
-use Rattle.rules.proofs.View.{packetNumber, says, goes, View, Stepped, view-step, begins-view}
-use Rattle.rules.specs.Octets.{if_then_else_}
-use Rattle.rules.specs.Book.{Book, Found, unknown, known, find, bookNumber, bookOf}
+use Rattle.rules.proofs.View.{view-step, begins-view}
+use Rattle.rules.proofs.LentAreas.{answers-cleared, after-cleared, restrained-cleared}
+use Rattle.rules.specs.Octets.{if_then_else_, isEmpty}
+use Rattle.rules.specs.Elements.{items}
+use Rattle.rules.specs.Book.{Entry, Book, Found, unknown, known, find, bookNumber, bookOf, written, upToCodec, shownBy02}
 use Rattle.rules.specs.Packets.{Message, Gathering, sizeRight, gather}
-use Rattle.rules.specs.Endpoints.{Ends, Connection, freshConnection, isUp, endAt, awaiting, withEnds, Moved}
-use Rattle.rules.specs.Endpoints.{downAt, happens}
+use Rattle.rules.specs.Endpoints.{Ends, Connection, freshConnection, isUp, endAt, awaiting, withEnds, Moved, downAt}
+use Rattle.rules.specs.Endpoints.{happens}
 use Rattle.rules.specs.Saved.{connectionIn}
-use Rattle.rules.specs.Host.{turnOf, takes, shownAt, heardAt}
+use Rattle.rules.specs.Host.{turnOf, takes, settingsOf, shownAt, Heard, heardAt}
 use Rattle.rules.specs.Sessions
-use Rattle.rules.specs.Sessions.{Call, check, fresh, packet, event, settingsTold, delay, packets, cut, number, heard}
+use Rattle.rules.specs.Sessions.{Call, check, fresh, packet, event, settings, delay, packets, cut, number, shown, heard}
 use Rattle.rules.specs.Sessions.{call, after}
-use Rattle.rules.specs.Alike.{alike, usesIn, afterEvent, restrained, Begins, noneReported}
+use Rattle.rules.specs.Views.{packetNumber, says, goes, View, Stepped}
+use Rattle.rules.specs.Alike.{alikeEntry, alike, usesIn, afterEvent, restrained, Begins, cleared, compared, Alike}
 use Rattle.rules.specs.declared.Event.{Event}
 use Rattle.rules.specs.declared.Event.the-variants.{Down, Lost}
 
@@ -77,10 +80,25 @@ happens-gathering book c Event.Up =
 happens-gathering book c (Down s) = down-gathering (find s book) c
 happens-gathering book c Lost = refl
 
-shown-same : (f f′ : Found) (ends : Ends) → FoundAlike f f′ → shownAt f ends .number ≡ shownAt f′ ends .number
-unfolding shownAt
+-- the configuration is the same, and of the offered lists the elements that 02 shows are
+settings-same : (n n′ : Entry) (config : List ℕ) → alikeEntry n n′ ≡ true
+    → written (upToCodec (items (if isEmpty config then n .caps else config)))
+      ≡ written (upToCodec (items (if isEmpty config then n′ .caps else config)))
+unfolding shownBy02
+settings-same n n′ config e = go (isEmpty config)
+  where
+    go : (t : Bool)
+        → written (upToCodec (items (if t then n .caps else config)))
+          ≡ written (upToCodec (items (if t then n′ .caps else config)))
+    go true = alike-shown n n′ e
+    go false = refl
+
+shown-same : (f f′ : Found) (ends : Ends) → FoundAlike f f′
+    → compared (shown (shownAt f ends)) ≡ compared (shown (shownAt f′ ends))
+unfolding shownAt settingsOf compared
 shown-same f f′ ends both-unknown = refl
-shown-same f f′ ends (both-known i n n′ e) = refl
+shown-same f f′ ends (both-known i n n′ e) =
+    ap (λ (l : List ℕ). shown (record { number = 0; part = l })) (settings-same n n′ (endAt ends i .config) e)
 
 heard-same : (f f′ : Found) (ends : Ends) → FoundAlike f f′ → heardAt f ends ≡ heardAt f′ ends
 unfolding heardAt
@@ -90,7 +108,7 @@ heard-same f f′ ends (both-known i n n′ e) = refl
 -- ---- One call over the connection: it is the same for books alike, and the far end stays restrained
 
 record Paced (book book′ : Book) (c : Connection) (k : Call) (calls : List Call) : Type 0 where
-  said : says book c k ≡ says book′ c k
+  said : compared (says book c k) ≡ compared (says book′ c k)
   gone : goes book c k ≡ goes book′ c k
   still : quietEnds (goes book c k .ends) ≡ true
   restrains : restrained (goes book c k .gathering) calls ≡ true
@@ -127,40 +145,39 @@ module _ {book book′ : Book} (same : AlikeBooks book book′) (c : Connection)
   paced (packet size p reply) r = packet-paced size p reply (told (eqb (packetNumber size reply) 0)) r
   paced (event v) r =
       record {
-        said = ap (λ (m : Moved). number (m .number)) (happens-same c v same);
+        said = ap (λ (m : Moved). compared (number (m .number))) (happens-same c v same);
         gone = ap (λ (m : Moved). m .connection) (happens-same c v same);
         still = happens-quiet book c v q;
         restrains = rw (happens-gathering book c v) r
       }
-  paced (settingsTold s) r =
-      record { said = ap number (shown-same _ _ (c .ends) (find-alike s same)); gone = refl; still = q; restrains = r }
+  paced (settings s) r =
+      record { said = shown-same _ _ (c .ends) (find-alike s same); gone = refl; still = q; restrains = r }
   paced (delay s) r =
-      record { said = ap heard (heard-same _ _ (c .ends) (find-alike s same)); gone = refl; still = q; restrains = r }
+      record {
+        said = ap (λ (h : Heard). compared (heard h)) (heard-same _ _ (c .ends) (find-alike s same));
+        gone = refl;
+        still = q;
+        restrains = r
+      }
   paced (packets size n) r = record { said = refl; gone = refl; still = q; restrains = r }
   paced (cut size m i area) r = record { said = refl; gone = refl; still = q; restrains = r }
 
 -- ---- Sequences over octets
 
-pub record Alike (b b′ s s′ : List ℕ) (calls : List Call) : Type 0 where
-  pub answers : Sessions.answers b s calls ≡ Sessions.answers b′ s′ calls
-  pub connections :
-    connectionIn (length (bookOf b)) (after b s calls) ≡ connectionIn (length (bookOf b′)) (after b′ s′ calls)
-  pub unreported : noneReported (connectionIn (length (bookOf b)) (after b s calls) .ends) ≡ true
-
 alike-more : (b b′ s s′ : List ℕ) (c : Connection) (k : Call) (calls : List Call) → Stepped b s c k → Stepped b′ s′ c k
-    → Paced (bookOf b) (bookOf b′) c k calls → Alike b b′ (call b s k .saved) (call b′ s′ k .saved) calls
-    → Alike b b′ s s′ (k ∷ calls)
+    → Paced (bookOf b) (bookOf b′) c k calls → Alike b b′ (call b s k .saved) (call b′ s′ k .saved) calls calls
+    → Alike b b′ s s′ (k ∷ calls) (k ∷ calls)
 unfolding Sessions.answers after
 alike-more b b′ s s′ c k calls step step′ pace rest =
     record {
-      answers = ap₂ _∷_ (step .answer ∙ pace .said ∙ sym (step′ .answer)) (rest .answers);
+      answers = ap₂ _∷_ (ap compared (step .answer) ∙ pace .said ∙ sym (ap compared (step′ .answer))) (rest .answers);
       connections = rest .connections;
       unreported = rest .unreported
     }
 
 module _ (b b′ : List ℕ) (ok : bookNumber b ≡ 0) (ok′ : bookNumber b′ ≡ 0) (same : AlikeBooks (bookOf b) (bookOf b′)) where
   alike-on : (calls : List Call) (s s′ : List ℕ) (c : Connection) → View b s c → View b′ s′ c → quietEnds (c .ends) ≡ true
-      → restrained (c .gathering) calls ≡ true → Alike b b′ s s′ calls
+      → restrained (c .gathering) calls ≡ true → Alike b b′ s s′ calls calls
   unfolding Sessions.answers after
   alike-on [] s s′ c v v′ q r =
       record {
@@ -176,12 +193,33 @@ module _ (b b′ : List ℕ) (ok : bookNumber b ≡ 0) (ok′ : bookNumber b′ 
         (alike-on calls (call b s k .saved) (call b′ s′ k .saved) (goes (bookOf b) c k) (step .next)
            (rw (pace .gone) (step′ .next)) (pace .still) (pace .restrains))
 
--- Two bridges whose books differ only in which endpoints offer delay reporting, each fresh or just lost, behave alike towards a
--- far end that never uses delay reporting, and no endpoint shows a reported delay.
-pub quiet : (b b′ s s′ : List ℕ) (calls : List Call) → bookNumber b ≡ 0 → bookNumber b′ ≡ 0
-    → alike (bookOf b) (bookOf b′) ≡ true → Begins b s → Begins b′ s′ → restrained none calls ≡ true → Alike b b′ s s′ calls
+begun-alike : (b b′ s s′ : List ℕ) (calls : List Call) → bookNumber b ≡ 0 → bookNumber b′ ≡ 0
+    → alike (bookOf b) (bookOf b′) ≡ true → Begins b s → Begins b′ s′ → restrained none calls ≡ true
+    → Alike b b′ s s′ calls calls
 unfolding freshConnection
-quiet b b′ s s′ calls ok ok′ e begins begins′ r =
+begun-alike b b′ s s′ calls ok ok′ e begins begins′ r =
     let same = alike-books (bookOf b) (bookOf b′) e in
     alike-on b b′ ok ok′ same calls s s′ (freshConnection (bookOf b)) (begins-view b s ok begins)
       (rw (fresh-same same) (begins-view b′ s′ ok′ begins′)) (fresh-quiet (bookOf b)) r
+
+-- Two bridges whose books differ only in which endpoints offer delay reporting, each fresh or just lost, behave alike towards a
+-- far end that never uses delay reporting, whatever the areas hold that their hosts lend them, and no endpoint shows a reported
+-- delay.
+pub quiet : (b b′ s s′ : List ℕ) (calls calls′ : List Call) → bookNumber b ≡ 0 → bookNumber b′ ≡ 0
+    → alike (bookOf b) (bookOf b′) ≡ true → Begins b s → Begins b′ s′ → map cleared calls ≡ map cleared calls′
+    → restrained none calls ≡ true → Alike b b′ s s′ calls calls′
+quiet b b′ s s′ calls calls′ ok ok′ e begins begins′ lent r =
+    let q = begun-alike b b′ s s′ (map cleared calls) ok ok′ e begins begins′ (rw (restrained-cleared none calls) r) in
+    record {
+      answers =
+        answers-cleared b s calls
+        ∙ q .answers
+        ∙ ap (λ (k : List Call). map compared (Sessions.answers b′ s′ k)) lent
+        ∙ sym (answers-cleared b′ s′ calls′);
+      connections =
+        ap (connectionIn (length (bookOf b))) (after-cleared b s calls)
+        ∙ q .connections
+        ∙ ap (λ (k : List Call). connectionIn (length (bookOf b′)) (after b′ s′ k)) lent
+        ∙ sym (ap (connectionIn (length (bookOf b′))) (after-cleared b′ s′ calls′));
+      unreported = rw (after-cleared b s calls) (q .unreported)
+    }

@@ -1,19 +1,20 @@
 -- The hypotheses of `quiet` can be met: the book of the traces, just lost after a delay was reported, and the same book without
--- delay reporting, fresh, meet an old headset that streams; all is computed.
+-- delay reporting, fresh, meet an old headset that streams, and their hosts lend other reply areas; all is computed.
 use Prim.Native.Nat.{ℕ}
 use mathlib.Core.Path.{_≡_, refl}
-use mathlib.Core.List.{List, [], _∷_}
+use mathlib.Core.List.{List, [], _∷_, map}
 use mathlib.Core.Bool.{true}
 use mathlib.Core.Option.{none}
 use lib.ListN.{replicate}
 use Rattle.rules.proofs.SavedStaysRight.{trace-book-right}
-use Rattle.rules.proofs.Quiet.{Alike, quiet}
+use Rattle.rules.proofs.Quiet.{quiet}
 use Rattle.rules.specs.Book.{bookNumber, bookOf}
 use Rattle.rules.specs.Endpoints.{endAt}
 use Rattle.rules.specs.Saved.{areaFor, connectionIn}
-use Rattle.rules.specs.Host.{freshCall, eventCall, delayCall}
-use Rattle.rules.specs.Sessions.{Call, packet, event, delay, after}
-use Rattle.rules.specs.Alike.{alikeEntry, alike, usesDelay, usesIn, afterEvent, restrained, Begins, begun, lost}
+use Rattle.rules.specs.Host.{freshCall, eventCall, settingsCall, delayCall}
+use Rattle.rules.specs.Sessions.{Call, packet, event, settings, delay, after}
+use Rattle.rules.specs.Alike.{alikeEntry, alike, usesDelay, usesIn, afterEvent, restrained, Begins, begun, lost, cleared}
+use Rattle.rules.specs.Alike.{Alike}
 use Rattle.rules.specs.Computed.{computed}
 use Rattle.rules.specs.Table.{traceBook, replyArea, setConfiguration1}
 use Rattle.rules.specs.declared.State.the-variants.{Streaming}
@@ -27,18 +28,27 @@ plainBook =
     ∷ 0x01 ∷ 0x00 ∷ 0x0A ∷ 0x01 ∷ 0x00 ∷ 0x07 ∷ 0x06 ∷ 0x00 ∷ 0x00 ∷ 0xFF ∷ 0xFF ∷ 0x02 ∷ 0x35
     ∷ 0x05 ∷ 0x08 ∷ 0x0A ∷ 0x01 ∷ 0x00 ∷ 0x07 ∷ 0x06 ∷ 0x00 ∷ 0x00 ∷ 0xFF ∷ 0xFF ∷ 0x02 ∷ 0x35 ∷ []
 
--- Discover, Get Capabilities, Set Configuration without category 8, Open, the channel comes up, Start, and the host asks for the
--- delay.
-unfoldable pub headsetCalls : List Call
-headsetCalls =
-    packet 48 (0x10 ∷ 0x01 ∷ []) replyArea
-    ∷ packet 48 (0x20 ∷ 0x02 ∷ 0x04 ∷ []) replyArea
-    ∷ packet 48 (0x30 ∷ 0x03 ∷ 0x04 ∷ 0x04 ∷ 0x01 ∷ 0x00 ∷ 0x07 ∷ 0x06 ∷ 0x00 ∷ 0x00 ∷ 0x21 ∷ 0x15 ∷ 0x02 ∷ 0x35 ∷ []) replyArea
-    ∷ packet 48 (0x40 ∷ 0x06 ∷ 0x04 ∷ []) replyArea
+-- The host asks for the settings of endpoint 1. Discover, Get Capabilities, Set Configuration without category 8, Open, the
+-- channel comes up, Start, and the host asks for the delay.
+unfoldable pub headsetCalls : List ℕ → List Call
+headsetCalls area =
+    settings (record { 0 = 1 })
+    ∷ packet 48 (0x10 ∷ 0x01 ∷ []) area
+    ∷ packet 48 (0x20 ∷ 0x02 ∷ 0x04 ∷ []) area
+    ∷ packet 48 (0x30 ∷ 0x03 ∷ 0x04 ∷ 0x04 ∷ 0x01 ∷ 0x00 ∷ 0x07 ∷ 0x06 ∷ 0x00 ∷ 0x00 ∷ 0x21 ∷ 0x15 ∷ 0x02 ∷ 0x35 ∷ []) area
+    ∷ packet 48 (0x40 ∷ 0x06 ∷ 0x04 ∷ []) area
     ∷ event Event.Up
-    ∷ packet 48 (0x50 ∷ 0x07 ∷ 0x04 ∷ []) replyArea
+    ∷ packet 48 (0x50 ∷ 0x07 ∷ 0x04 ∷ []) area
     ∷ delay (record { 0 = 1 })
     ∷ []
+
+-- another reply area of the same length
+abbrev pub otherArea : List ℕ
+otherArea = replicate 64 0x11
+
+areas-of-one-length : map cleared (headsetCalls replyArea) ≡ map cleared (headsetCalls otherArea)
+unfolding computed headsetCalls cleared
+areas-of-one-length = refl
 
 -- an area that was something else before, and one in which a delay of 1,500 tenths is reported
 abbrev pub usedArea : List ℕ
@@ -75,16 +85,29 @@ plain-begins : Begins plainBook freshArea
 unfolding computed plainBook
 plain-begins = begun usedArea refl
 
-calls-restrained : restrained none headsetCalls ≡ true
+calls-restrained : restrained none (headsetCalls replyArea) ≡ true
 unfolding computed restrained usesIn usesDelay afterEvent headsetCalls
 calls-restrained = refl
 
-pub headset-alike : Alike traceBook plainBook lostArea freshArea headsetCalls
+pub headset-alike : Alike traceBook plainBook lostArea freshArea (headsetCalls replyArea) (headsetCalls otherArea)
 headset-alike =
-    quiet traceBook plainBook lostArea freshArea headsetCalls trace-book-right plain-book-right books-alike trace-begins
-      plain-begins calls-restrained
+    quiet traceBook plainBook lostArea freshArea (headsetCalls replyArea) (headsetCalls otherArea) trace-book-right
+      plain-book-right books-alike trace-begins plain-begins areas-of-one-length calls-restrained
+
+-- The parts that the first question shows differ by category 8, which is left out of the comparison.
+pub trace-offers :
+  settingsCall traceBook lostArea (record { 0 = 1 }) .part
+    ≡ 0x01 ∷ 0x00 ∷ 0x07 ∷ 0x06 ∷ 0x00 ∷ 0x00 ∷ 0xFF ∷ 0xFF ∷ 0x02 ∷ 0x35 ∷ 0x08 ∷ 0x00 ∷ []
+unfolding computed traceBook delayedArea
+trace-offers = refl
+
+pub plain-offers :
+  settingsCall plainBook freshArea (record { 0 = 1 }) .part
+    ≡ 0x01 ∷ 0x00 ∷ 0x07 ∷ 0x06 ∷ 0x00 ∷ 0x00 ∷ 0xFF ∷ 0xFF ∷ 0x02 ∷ 0x35 ∷ []
+unfolding computed plainBook
+plain-offers = refl
 
 -- and the headset does stream
-pub headset-streams : endAt (connectionIn 2 (after traceBook lostArea headsetCalls) .ends) 0 .state ≡ Streaming
+pub headset-streams : endAt (connectionIn 2 (after traceBook lostArea (headsetCalls replyArea)) .ends) 0 .state ≡ Streaming
 unfolding computed traceBook delayedArea headsetCalls
 headset-streams = refl

@@ -17,7 +17,7 @@ use Rattle.rules.specs.Saved.{areaFor, countIn, connectionIn, store, sav
 use Rattle.rules.specs.Host.{numberOr, refusalOf, packetRefusal, Kept, freshCall, Answered, packetCall, eventCall}
 use Rattle.rules.specs.Computed.{computed}
 use Rattle.rules.specs.Table.{traceBook}
-use Rattle.rules.specs.Sessions.{Call, check, fresh, packet, event, settingsTold, delay, packets, cut, kept}
+use Rattle.rules.specs.Sessions.{Call, check, fresh, packet, event, settings, delay, packets, cut, kept}
 use Rattle.rules.specs.Sessions.{answered, asked, call, after}
 use Rattle.rules.specs.declared.Event.{Event}
 use Rattle.rules.proofs.Tests.{and-l, and-r}
@@ -110,7 +110,7 @@ module _ (b saved : List ℕ) (right : bookNumber b ≡ 0) (h : savedRight (book
   stays-legal fresh = fresh-keeps
   stays-legal (packet size p reply) = packet-keeps size p reply
   stays-legal (event e) = event-keeps e
-  stays-legal (settingsTold s) = h
+  stays-legal (settings s) = h
   stays-legal (delay s) = h
   stays-legal (packets size n) = h
   stays-legal (cut size m k area) = h

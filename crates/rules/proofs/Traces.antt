@@ -2,10 +2,10 @@
 use mathlib.Core.Path.{_≡_, refl}
 use mathlib.Core.List.{[], _∷_}
 use Rattle.rules.specs.Computed.{computed}
-use Rattle.rules.specs.Table.{played, playedFresh, aired, stateFound, traceBook, traceTable, cutLengths, hallTable}
+use Rattle.rules.specs.Table.{played, playedFresh, outOf, stateFound, traceBook, traceTable, cutLengths, hallTable}
 
 pub traces : playedFresh traceBook 48 traceTable ≡ traceTable
-unfolding computed played playedFresh aired stateFound traceBook traceTable
+unfolding computed played playedFresh outOf stateFound traceBook traceTable
 traces = refl
 
 pub cuts-46 : cutLengths 48 46 ≡ 48 ∷ []
@@ -25,5 +25,5 @@ unfolding computed cutLengths
 cuts-93 = refl
 
 pub lecture-hall : playedFresh traceBook 48 hallTable ≡ hallTable
-unfolding computed played playedFresh aired stateFound traceBook hallTable
+unfolding computed played playedFresh outOf stateFound traceBook hallTable
 lecture-hall = refl

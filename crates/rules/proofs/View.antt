@@ -3,7 +3,7 @@
 use Prim.Native.Nat.{ℕ, _≤_}
 use mathlib.Core.Path.{_≡_, refl, sym, ap, ap₂, _∙_, subst, subst₂}
 use mathlib.Core.List.{List, [], _∷_, map}
-use mathlib.Core.Bool.{true, false, not}
+use mathlib.Core.Bool.{true, false}
 use mathlib.Core.Option.{none}
 use lib.ListN.{length}
 use lib.Dec.{ltb, eqb}
@@ -16,48 +16,20 @@ use Rattle.rules.proofs.RightBook.{right-book}
 use Rattle.rules.proofs.Outcomes.{if-arms}
 use Rattle.rules.proofs.StaysLegal.{legal-ends, fresh-legal, takes-legal, happens-legal}
 use Rattle.rules.proofs.SavedStaysRight.{legal-roomy, stored-right, right-long, right-legal}
-use Rattle.rules.specs.Octets.{if_then_else_, front}
+use Rattle.rules.specs.Octets.{front}
 use Rattle.rules.specs.Book.{Entry, Book, Found, unknown, known, find, bookNumber, bookOf}
-use Rattle.rules.specs.Packets.{sizeRight}
 use Rattle.rules.specs.Endpoints.{Endpoint, Ends, Connection, idle, freshEnds, freshConnection, forgotten, isUp, endAt}
 use Rattle.rules.specs.Endpoints.{legalEnd, legalEnds, legal, awaiting, Moved, downAt, happens}
 use Rattle.rules.specs.Saved.{areaFor, connectionIn, store, savedRight}
 use Rattle.rules.specs.Host.{checkCall, numberOr, savedNumber, refusalOf, packetRefusal, Kept, freshCall, nothingSaid}
-use Rattle.rules.specs.Host.{takes, packetCall, eventCall, shownAt, settingsCall, heardAt, delayCall, packetsCall, cutCall}
-use Rattle.rules.specs.Sessions.{Call, check, fresh, packet, event, settingsTold, delay, packets, cut}
-use Rattle.rules.specs.Sessions.{Answer, number, told, heard, cutOff, Done, kept, answered, asked, call}
+use Rattle.rules.specs.Host.{takes, packetCall, eventCall, shownAt, settingsCall, heardAt, delayCall}
+use Rattle.rules.specs.Sessions.{Call, check, fresh, packet, event, settings, delay, packets, cut, number, told, shown}
+use Rattle.rules.specs.Sessions.{heard, Done, kept, answered, asked, call}
+use Rattle.rules.specs.Views.{packetNumber, says, goes, View, Stepped}
 use Rattle.rules.specs.Alike.{Begins, begun, lost}
 use Rattle.rules.specs.declared.OurSeid.{OurSeid}
 use Rattle.rules.specs.declared.Event.{Event}
 use Rattle.rules.specs.declared.Event.the-variants.{Down, Lost}
-
--- ---- A call over the connection: what it says, and where the connection goes
-
--- the refusals of a packet that are left
-unfoldable pub packetNumber : ℕ → List ℕ → ℕ
-packetNumber size reply = if not (sizeRight size) then 8 else if ltb (length reply) 64 then 9 else 0
-
-unfoldable pub says : Book → Connection → Call → Answer
-says book c check = number 0
-says book c fresh = number 0
-says book c (packet size p reply) =
-    if eqb (packetNumber size reply) 0 then told (takes book size c p .told) (front (takes book size c p .payload) reply)
-    else told (nothingSaid (packetNumber size reply)) reply
-says book c (event v) = number (happens book c v .number)
-says book c (settingsTold s) = number (shownAt (find s book) (c .ends) .number)
-says book c (delay s) = heard (heardAt (find s book) (c .ends))
-says book c (packets size n) = number (packetsCall size n)
-says book c (cut size m k area) = cutOff (cutCall size m k area)
-
-unfoldable pub goes : Book → Connection → Call → Connection
-goes book c check = c
-goes book c fresh = freshConnection book
-goes book c (packet size p reply) = if eqb (packetNumber size reply) 0 then takes book size c p .connection else c
-goes book c (event v) = happens book c v .connection
-goes book c (settingsTold s) = c
-goes book c (delay s) = c
-goes book c (packets size n) = c
-goes book c (cut size m k area) = c
 
 -- an event that is refused changes nothing
 down-refused : (f : Found) (c : Connection) → eqb (downAt f c .number) 0 ≡ false → downAt f c .connection ≡ c
@@ -76,15 +48,7 @@ happens-refused book c Event.Up =
 happens-refused book c (Down s) = down-refused (find s book) c
 happens-refused book c Lost = λ refused. clash refl refused
 
--- ---- A right area and the connection that it shows, before and after a call
-
-pub record View (b s : List ℕ) (c : Connection) : Type 0 where
-  pub right : savedRight (bookOf b) s ≡ true
-  pub shows : connectionIn (length (bookOf b)) s ≡ c
-
-pub record Stepped (b s : List ℕ) (c : Connection) (k : Call) : Type 0 where
-  pub answer : call b s k .answer ≡ says (bookOf b) c k
-  pub next : View b (call b s k .saved) (goes (bookOf b) c k)
+-- ---- A right area, before and after a call
 
 module _ (b : List ℕ) (ok : bookNumber b ≡ 0) where
   stored-view : (c : Connection) (s : List ℕ) → legal (bookOf b) c ≡ true → areaFor (length (bookOf b)) ≤ length s
@@ -149,11 +113,10 @@ module _ (b : List ℕ) (ok : bookNumber b ≡ 0) where
         step (event e) (kept (record { number = happens (bookOf b) c e .number; saved = s })) (rw (v .shows, no-refusal, refused))
           refl (rw (happens-refused (bookOf b) c e refused) v)
 
-    settings-step : (x : OurSeid) → Stepped b s c (settingsTold x)
+    settings-step : (x : OurSeid) → Stepped b s c (settings x)
     unfolding call asked says goes settingsCall
     settings-step x =
-        step (settingsTold x) (asked s (number (shownAt (find x (bookOf b)) (c .ends) .number)))
-          (rw (no-refusal, v .shows)) refl v
+        step (settings x) (asked s (shown (shownAt (find x (bookOf b)) (c .ends)))) (rw (no-refusal, v .shows)) refl v
 
     delay-step : (x : OurSeid) → Stepped b s c (delay x)
     unfolding call asked says goes delayCall
@@ -166,7 +129,7 @@ module _ (b : List ℕ) (ok : bookNumber b ≡ 0) where
     view-step fresh = fresh-step
     view-step (packet size p reply) = packet-step size p reply (whether (eqb (packetNumber size reply) 0))
     view-step (event e) = event-step e (whether (eqb (happens (bookOf b) c e .number) 0))
-    view-step (settingsTold x) = settings-step x
+    view-step (settings x) = settings-step x
     view-step (delay x) = delay-step x
     view-step (packets size n) = record { answer = refl; next = v }
     view-step (cut size m k area) = record { answer = refl; next = v }

@@ -1,19 +1,22 @@
--- The words of demand 3: books that differ only in which endpoints offer delay reporting, a far end that never uses it, and where
--- the two bridges begin.
+-- The words of demand 3: books that differ only in which endpoints offer delay reporting, a far end that never uses it, where
+-- the two bridges begin, and what it is that they behave alike.
 use Prim.Native.Nat.{ℕ}
 use mathlib.Core.Path.{_≡_}
-use mathlib.Core.List.{List, [], _∷_}
+use mathlib.Core.List.{List, [], _∷_, map}
 use mathlib.Core.Bool.{Bool, true, false, not, _&&_, _||_}
 use mathlib.Core.Option.{Option, none, some}
-use lib.ListN.{length, drop}
+use lib.ListN.{length, take, drop, replicate}
 use lib.Dec.{leb, eqb}
 use Rattle.rules.specs.Octets.{if_then_else_, sameOctets, each-of}
 use Rattle.rules.specs.Elements.{items, has}
-use Rattle.rules.specs.Book.{Entry, Book, shownBy02}
+use Rattle.rules.specs.Book.{Entry, Book, bookOf, written, upToCodec, shownBy02}
 use Rattle.rules.specs.Packets.{Message, Gathering, gather, sizeRight}
 use Rattle.rules.specs.Endpoints.{Ends, isReported}
+use Rattle.rules.specs.Saved.{connectionIn}
 use Rattle.rules.specs.Host.{freshCall, eventCall}
-use Rattle.rules.specs.Sessions.{Call, check, fresh, packet, event, settingsTold, delay, packets, cut}
+use Rattle.rules.specs.Sessions
+use Rattle.rules.specs.Sessions.{Call, check, fresh, packet, event, settings, delay, packets, cut, Answer, number, told}
+use Rattle.rules.specs.Sessions.{shown, heard, counted, cutOff, after}
 use Rattle.rules.specs.declared.Event.{Event}
 use Rattle.rules.specs.declared.Event.the-variants.{Up, Down, Lost}
 
@@ -58,7 +61,7 @@ restrained g (packet size p reply ∷ calls) =
     then not (usesIn (gather size g p .done)) && restrained (gather size g p .gathering) calls
     else restrained g calls
 restrained g (event e ∷ calls) = restrained (afterEvent g e) calls
-restrained g (settingsTold s ∷ calls) = restrained g calls
+restrained g (settings s ∷ calls) = restrained g calls
 restrained g (delay s ∷ calls) = restrained g calls
 restrained g (packets size n ∷ calls) = restrained g calls
 restrained g (cut size m k area ∷ calls) = restrained g calls
@@ -72,3 +75,34 @@ pub data Begins (book saved : List ℕ) : Type 0 where
 -- no endpoint shows a reported delay
 unfoldable pub noneReported : Ends → Bool
 noneReported ends = each-of (λ e. not (isReported (e .delay))) ends
+
+-- ---- Behaving alike: the same calls but for what lent areas hold, the same answers but for what may differ
+
+-- a call with zeros in the area that it lends: its length alone is left of the area
+unfoldable pub cleared : Call → Call
+cleared check = check
+cleared fresh = fresh
+cleared (packet size p reply) = packet size p (replicate (length reply) 0)
+cleared (event e) = event e
+cleared (settings s) = settings s
+cleared (delay s) = delay s
+cleared (packets size n) = packets size n
+cleared (cut size m k area) = cut size m k (replicate (length area) 0)
+
+-- What is compared of an answer: all of it, but of a lent area only what was written at its front, and of the part that
+-- `settings` shows only the elements of categories 1 to 7, as 02 shows them of an entry.
+unfoldable pub compared : Answer → Answer
+compared (number n) = number n
+compared (told t reply) = told t (take (t .length) reply)
+compared (shown s) = shown (record { number = s .number; part = written (upToCodec (items (s .part))) })
+compared (heard h) = heard h
+compared (counted n) = counted n
+compared (cutOff c) = cutOff (record { number = c .number; length = c .length; area = take (c .length) (c .area) })
+
+-- Two bridges, each with its book, its saved area and its calls: alike are the answers and the connections that they end with,
+-- and no endpoint shows a reported delay.
+pub record Alike (b b′ s s′ : List ℕ) (calls calls′ : List Call) : Type 0 where
+  pub answers : map compared (Sessions.answers b s calls) ≡ map compared (Sessions.answers b′ s′ calls′)
+  pub connections :
+    connectionIn (length (bookOf b)) (after b s calls) ≡ connectionIn (length (bookOf b′)) (after b′ s′ calls′)
+  pub unreported : noneReported (connectionIn (length (bookOf b)) (after b s calls) .ends) ≡ true

@@ -9,6 +9,8 @@ pub mod Saved
 pub mod Commands
 pub mod Host
 pub mod Sessions
+pub mod Listed
+pub mod Views
 pub mod Walks
 pub mod Wires
 pub mod Answers

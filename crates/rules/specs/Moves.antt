@@ -1,17 +1,21 @@
 -- The words of "a rejected Start or Suspend names the first endpoint that failed and has moved exactly those listed before it".
-use Prim.Native.Nat.{ℕ}
+use Prim.Native.Nat.{ℕ, _*_}
 use mathlib.Core.Path.{_≡_}
 use mathlib.Core.List.{List, [], _∷_, _++_}
 use mathlib.Core.Bool.{Bool, true, false, _&&_, _||_}
 use mathlib.Core.Option.{Option, none, some}
-use lib.ListN.{set}
+use lib.ListN.{length, set}
 use lib.Dec.{eqb}
-use Rattle.rules.specs.Octets.{some-of}
+use Rattle.rules.specs.Octets.{if_then_else_, some-of, front}
 use Rattle.rules.specs.Book.{Book, Found, unknown, known, find}
 use Rattle.rules.specs.Packets.{Message}
 use Rattle.rules.specs.Endpoints.{Endpoint, Ends, endAt, inState}
-use Rattle.rules.specs.Commands.{Reply, silence, generalReject, accept, reject, rejectSeid, ourIn, Outcome}
+use Rattle.rules.specs.Saved.{connectionIn}
+use Rattle.rules.specs.Commands.{Reply, silence, generalReject, accept, reject, rejectSeid, ourIn, Outcome, mayStart}
+use Rattle.rules.specs.Commands.{maySuspend}
+use Rattle.rules.specs.Host.{Answered}
 use Rattle.rules.specs.declared.State.{State}
+use Rattle.rules.specs.declared.State.the-variants.{Open, Streaming}
 
 -- one endpoint moved to a state, and each that a payload lists, in turn
 unfoldable pub movedOne : State → Found → Ends → Ends
@@ -73,3 +77,28 @@ isAccept silence = false
 isAccept generalReject = false
 isAccept (accept p) = true
 isAccept (reject p) = false
+
+-- what Start (07) and Suspend (09) ask of an endpoint, and where they take it
+unfoldable pub mayTurn : ℕ → Endpoint → Bool
+mayTurn signal = if eqb signal 0x07 then mayStart else maySuspend
+
+unfoldable pub turnsTo : ℕ → State
+turnsTo signal = if eqb signal 0x07 then Streaming else Open
+
+-- A reject of two octets, seen from outside: what is told of it, and what is at the front of the reply area.
+pub record RejectSeen (reply : List ℕ) (m : Message) (seid code : ℕ) (a : Answered) : Type 0 where
+  pub told : a .told ≡ record { number = 0; label = m .label; type = 3; signal = m .signal; length = 2 }
+  pub written : a .reply ≡ front (seid * 4 ∷ code ∷ []) reply
+
+-- Stopped at the first that failed, seen from outside: the message m was completed on a saved area that showed `ends`; what it
+-- shows then is those listed before the failure moved, and the reply names the one that failed.
+pub record StoppedSeen (book : Book) (ends : Ends) (reply : List ℕ) (m : Message) (a : Answered) : Type 0 where
+  pub before : List ℕ
+  pub failed : ℕ
+  pub behind : List ℕ
+  pub listed : m .payload ≡ before ++ failed ∷ behind
+  pub might : mayAll (mayTurn (m .signal)) (turnsTo (m .signal)) book ends before ≡ true
+  pub moved : connectionIn (length book) (a .saved) .ends ≡ movedAll (turnsTo (m .signal)) book ends before
+  pub mightNot :
+    mayOne (mayTurn (m .signal)) (find (ourIn failed) book) (movedAll (turnsTo (m .signal)) book ends before) ≡ false
+  pub named : RejectSeen reply m (ourIn failed .0) (failCode (find (ourIn failed) book)) a

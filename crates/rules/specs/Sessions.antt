@@ -2,8 +2,8 @@
 use Prim.Native.Nat.{ℕ}
 use mathlib.Core.List.{List, [], _∷_}
 use Rattle.rules.specs.Packets.{Message}
-use Rattle.rules.specs.Host.{checkCall, Kept, freshCall, Told, Answered, packetCall, eventCall, settingsCall, Heard}
-use Rattle.rules.specs.Host.{delayCall, packetsCall, Cut, cutCall}
+use Rattle.rules.specs.Host.{checkCall, Kept, freshCall, Told, Answered, packetCall, eventCall, Shown, settingsCall}
+use Rattle.rules.specs.Host.{Heard, delayCall, packetsCall, Cut, cutCall}
 use Rattle.rules.specs.declared.OurSeid.{OurSeid}
 use Rattle.rules.specs.declared.Event.{Event}
 
@@ -13,9 +13,9 @@ pub data Call : Type 0 where
   -- packet size, packet, reply area
   packet : ℕ → List ℕ → List ℕ → Call
   event : Event → Call
-  -- the number of a settings question; what is shown is no part of a sequence
-  settingsTold : OurSeid → Call
+  settings : OurSeid → Call
   delay : OurSeid → Call
+  -- packet size, length of a payload
   packets : ℕ → ℕ → Call
   -- packet size, message, packet number, area
   cut : ℕ → Message → ℕ → List ℕ → Call
@@ -24,7 +24,11 @@ pub data Answer : Type 0 where
   number : ℕ → Answer
   -- what is told of a packet, and the reply area at exit
   told : Told → List ℕ → Answer
+  -- the number of a settings question, and the part that it shows
+  shown : Shown → Answer
   heard : Heard → Answer
+  -- how many packets
+  counted : ℕ → Answer
   cutOff : Cut → Answer
 
 -- one call: its answer, and the saved area at exit
@@ -46,9 +50,9 @@ call book saved check = asked saved (number (checkCall book))
 call book saved fresh = kept (freshCall book saved)
 call book saved (packet size p reply) = answered (packetCall book size saved p reply)
 call book saved (event e) = kept (eventCall book saved e)
-call book saved (settingsTold s) = asked saved (number (settingsCall book saved s .number))
+call book saved (settings s) = asked saved (shown (settingsCall book saved s))
 call book saved (delay s) = asked saved (heard (delayCall book saved s))
-call book saved (packets size n) = asked saved (number (packetsCall size n))
+call book saved (packets size n) = asked saved (counted (packetsCall size n))
 call book saved (cut size m k area) = asked saved (cutOff (cutCall size m k area))
 
 -- the answers of a sequence, and the saved area after it

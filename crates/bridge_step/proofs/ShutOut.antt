@@ -1,16 +1,17 @@
--- Five bridges that answer and yet are of no use, shut out: whatever meets the contracts gives exactly these answers to this host, and
--- each of the five would give another one at the step that is marked.
+-- Five bridges that answer and yet are of no use, shut out: whatever meets the contracts gives exactly these answers to this
+-- host, and each of the five would give another one at the step that is marked.
 use Prim.Native.Nat.{ℕ}
 use mathlib.Core.Path.{_≡_, refl, _∙_}
-use mathlib.Core.List.{List, [], _∷_}
+use mathlib.Core.List.{List, [], _∷_, map}
 use lib.ListN.{replicate}
 use Rattle.rules.specs.Computed.{computed}
 use Rattle.rules.specs.Packets.{Message}
 use Rattle.rules.specs.Saved.{areaFor}
 use Rattle.rules.specs.Sessions.{Call, fresh, packet, cut, Answer, number, told, cutOff}
 use Rattle.rules.specs.Table.{traceBook, setConfiguration1}
-use Rattle.bridge.specs.Hosts.{Runs}
-use Rattle.bridge.proofs.AllHosts.{defined}
+use Rattle.bridge_step.specs.Steps.{callBy}
+use Rattle.bridge_step.specs.Hosts.{callOf, askedOf, Runs}
+use Rattle.bridge_step.proofs.AllHosts.{defined}
 
 abbrev area : List ℕ
 area = replicate 64 0
@@ -43,7 +44,8 @@ sessionAnswers =
     ∷ cutOff (record { number = 0; length = 48; area = 0x16 ∷ 0x02 ∷ 0x0C ∷ replicate 45 0xAB })
     ∷ []
 
-pub shut-out : (answers : List Answer) (last : List ℕ) → Runs traceBook (replicate (areaFor 2) 0xDD) session answers last
-  → answers ≡ sessionAnswers
-unfolding computed traceBook session sessionAnswers
-shut-out answers last runs = defined traceBook (replicate (areaFor 2) 0xDD) session answers last runs .told ∙ refl
+pub shut-out : (room last : List ℕ) (answers : List Answer)
+  → Runs traceBook (replicate (areaFor 2) 0xDD) (map (askedOf room) session) answers last → answers ≡ sessionAnswers
+unfolding computed traceBook session sessionAnswers callOf askedOf callBy
+shut-out room last answers runs =
+    defined traceBook (replicate (areaFor 2) 0xDD) (map (askedOf room) session) answers last runs .told ∙ refl

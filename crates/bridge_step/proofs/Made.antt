@@ -1,0 +1,110 @@
+-- Each arm of `step`: the contract of the call that it makes, put in the place of the call in the step of a sequence.
+use Prim.Native.Nat.{ℕ}
+use mathlib.Core.Path.{_≡_, sym, ap, ap₂, _∙_}
+use mathlib.Core.List.{List}
+use lib.ListN.{length}
+use Rattle.rules.specs.Octets.{front}
+use Rattle.rules.specs.Host.{checkCall, Kept, Answered, settingsCall, Heard, packetsCall, Cut}
+use Rattle.rules.specs.Wires.{cutBy}
+use Rattle.rules.specs.Sessions.{kept, answered, asked, call}
+use Rattle.rules.specs.declared.OurSeid.{OurSeid}
+use Rattle.rules.specs.declared.Event.{Event}
+use Rattle.rules.specs.declared.Told.{Told as ToldBy}
+use Rattle.rules.specs.declared.Heard.{Heard as HeardBy}
+use Rattle.rules.specs.declared.Piece.{Piece}
+use Rattle.octets.specs.Patch.{patch}
+use Rattle.octets.proofs.Patches.{front-patch}
+use Rattle.bridge.specs.Calls.{Freshens, Takes, Happens, Hears, Cuts}
+use Rattle.bridge_step.specs.declared.Call.{Call}
+use Rattle.bridge_step.specs.declared.Call.the-variants as Call
+use Rattle.bridge_step.specs.declared.Answer.the-variants.{Number, Told, Shown, Heard as HeardIt, Counted, CutOff}
+use Rattle.bridge_step.specs.Steps.{callBy, answerIn, areaAfter, roomAfter, exitOf, Steps, Copied, copiedOf}
+
+module _ (book saved : List ℕ) (k : Call) (input area room : List ℕ) where
+  pub checks : k ≡ Call.Check → (n : ℕ) → n ≡ checkCall book → Steps book saved k input area room (Number n) saved area room
+  unfolding exitOf callBy call asked answerIn areaAfter roomAfter
+  checks is n e = rw is (ap (λ (x : ℕ). record { answer = Number x; saved = saved; area = area; room = room }) e)
+
+  pub freshens : k ≡ Call.Fresh → (n : ℕ) (next : List ℕ) → Freshens book saved n next
+    → Steps book saved k input area room (Number n) next area room
+  unfolding exitOf callBy call kept answerIn areaAfter roomAfter
+  freshens is n next e =
+      rw is (ap (λ (x : Kept). record { answer = Number (x .number); saved = x .saved; area = area; room = room }) e)
+
+  pub takes : (size : ℕ) → k ≡ Call.Packet size → (t : ToldBy) (next reply : List ℕ)
+    → Takes book size saved input area t next reply
+    → Steps book saved k input area room (Told t) next reply room
+  unfolding exitOf callBy call answered answerIn areaAfter roomAfter
+  takes size is t next reply e =
+      rw is (ap (λ (a : Answered).
+            record {
+              answer =
+                Told
+                  (record {
+                     number = a .told .number;
+                     label = a .told .label;
+                     kind = a .told .type;
+                     signal = a .told .signal;
+                     length = a .told .length
+                   });
+              saved = a .saved;
+              area = a .reply;
+              room = room
+            })
+        e)
+
+  pub happens : (v : Event) → k ≡ Call.Event v → (n : ℕ) (next : List ℕ) → Happens book saved v n next
+    → Steps book saved k input area room (Number n) next area room
+  unfolding exitOf callBy call kept answerIn areaAfter roomAfter
+  happens v is n next e =
+      rw is (ap (λ (x : Kept). record { answer = Number (x .number); saved = x .saved; area = area; room = room }) e)
+
+  pub shows : (s : OurSeid) → k ≡ Call.Settings s → (n size : ℕ) (room′ : List ℕ) → n ≡ settingsCall book saved s .number
+    → _≡_ {A = Copied} (record { length = size; room = room′ }) (copiedOf book saved s room)
+    → Steps book saved k input area room (Shown n size) saved area room′
+  unfolding exitOf callBy call asked answerIn areaAfter roomAfter copiedOf
+  shows s is n size room′ e copied =
+      rw is
+        (ap₂ (λ (y : ℕ) (x : Copied). record { answer = Shown y (x .length); saved = saved; area = area; room = x .room }) e
+           copied)
+
+  pub hears : (s : OurSeid) → k ≡ Call.Delay s → (h : HeardBy) → Hears book saved s h
+    → Steps book saved k input area room (HeardIt h) saved area room
+  unfolding exitOf callBy call asked answerIn areaAfter roomAfter
+  hears s is h e =
+      rw is (ap (λ (x : Heard).
+            record {
+              answer = HeardIt (record { number = x .number; reported = x .reported; tenths = x .tenths });
+              saved = saved;
+              area = area;
+              room = room
+            })
+        e)
+
+  pub counts : (size n : ℕ) → k ≡ Call.Packets size n → (many : ℕ) → many ≡ packetsCall size n
+    → Steps book saved k input area room (Counted many) saved area room
+  unfolding exitOf callBy call asked answerIn areaAfter roomAfter
+  counts size n is many e = rw is (ap (λ (x : ℕ). record { answer = Counted x; saved = saved; area = area; room = room }) e)
+
+  pub cuts : (size label kind signal index : ℕ) → k ≡ Call.Cut size label kind signal index → (piece : Piece) (area′ : List ℕ)
+    → Cuts size label kind signal input index area piece area′
+    → Steps book saved k input area room (CutOff piece) saved area′ room
+  unfolding exitOf callBy call asked answerIn areaAfter roomAfter cutBy
+  cuts size label kind signal index is piece area′ e =
+      rw is (ap (λ (x : Cut).
+            record {
+              answer = CutOff (record { number = x .number; length = x .length });
+              saved = saved;
+              area = x .area;
+              room = room
+            })
+        e)
+
+-- the part that `settings` shows, copied to the front of the room
+pub copies : (book saved : List ℕ) (s : OurSeid) (part room room′ : List ℕ) → part ≡ settingsCall book saved s .part
+  → room′ ≡ patch 0 part room
+  → _≡_ {A = Copied} (record { length = length part; room = room′ }) (copiedOf book saved s room)
+unfolding copiedOf
+copies book saved s part room room′ shown put =
+    ap (λ (l : List ℕ). record { length = length part; room = l }) (put ∙ sym (front-patch part room))
+    ∙ ap (λ (l : List ℕ). record { length = length l; room = front l room }) shown

@@ -1,0 +1,93 @@
+-- The contract of `step`, one equation: the answer and every lent area at exit are what the step of a sequence makes of the
+-- inputs.
+use Prim.Native.Nat.{ℕ}
+use mathlib.Core.Path.{_≡_}
+use mathlib.Core.List.{List}
+use lib.ListN.{length}
+use Rattle.rules.specs.Octets.{front}
+use Rattle.rules.specs.Host.{settingsCall}
+use Rattle.rules.specs.Sessions
+use Rattle.rules.specs.Sessions.{check, fresh, packet, event, settings, delay, packets, cut, number, told, shown, heard}
+use Rattle.rules.specs.Sessions.{counted, cutOff}
+use Rattle.rules.specs.declared.OurSeid.{OurSeid}
+use Rattle.bridge_step.specs.declared.Call.{Call}
+use Rattle.bridge_step.specs.declared.Call.the-variants.{Check, Fresh, Packet, Event, Settings, Delay, Packets, Cut}
+use Rattle.bridge_step.specs.declared.Answer.{Answer}
+use Rattle.bridge_step.specs.declared.Answer.the-variants.{Number, Told, Shown, Heard, Counted, CutOff}
+
+-- ---- What the code takes and gives, in the words of the definitions
+
+-- a call, with the octets that it reads and the area that it lends
+unfoldable pub callBy : Call → List ℕ → List ℕ → Sessions.Call
+callBy Check input area = check
+callBy Fresh input area = fresh
+callBy (Packet size) input area = packet size input area
+callBy (Event e) input area = event e
+callBy (Settings s) input area = settings s
+callBy (Delay s) input area = delay s
+callBy (Packets size length) input area = packets size length
+callBy (Cut size label kind signal index) input area =
+    cut size (record { label = label; type = kind; signal = signal; payload = input }) index area
+
+-- an answer: its numbers, and of the part that is shown the length
+unfoldable pub answerIn : Sessions.Answer → Answer
+answerIn (number n) = Number n
+answerIn (told t reply) =
+    Told (record { number = t .number; label = t .label; kind = t .type; signal = t .signal; length = t .length })
+answerIn (shown s) = Shown (s .number) (length (s .part))
+answerIn (heard h) = Heard (record { number = h .number; reported = h .reported; tenths = h .tenths })
+answerIn (counted n) = Counted n
+answerIn (cutOff c) = CutOff (record { number = c .number; length = c .length })
+
+-- ---- The areas at exit
+
+-- the lent area: what the answer says of it, and otherwise as it was
+unfoldable pub areaAfter : Sessions.Answer → List ℕ → List ℕ
+areaAfter (number n) area = area
+areaAfter (told t reply) area = reply
+areaAfter (shown s) area = area
+areaAfter (heard h) area = area
+areaAfter (counted n) area = area
+areaAfter (cutOff c) area = c .area
+
+-- the room: the part that is shown, at its front
+unfoldable pub roomAfter : Sessions.Answer → List ℕ → List ℕ
+roomAfter (number n) room = room
+roomAfter (told t reply) room = room
+roomAfter (shown s) room = front (s .part) room
+roomAfter (heard h) room = room
+roomAfter (counted n) room = room
+roomAfter (cutOff c) room = room
+
+-- ---- The contracts
+
+-- what a step leaves
+pub record Exit : Type 0 where
+  pub answer : Answer
+  pub saved : List ℕ
+  pub area : List ℕ
+  pub room : List ℕ
+
+unfoldable pub exitOf : Sessions.Done → List ℕ → List ℕ → Exit
+exitOf d area room =
+    record {
+      answer = answerIn (d .answer);
+      saved = d .saved;
+      area = areaAfter (d .answer) area;
+      room = roomAfter (d .answer) room
+    }
+
+abbrev pub Steps : List ℕ → List ℕ → Call → List ℕ → List ℕ → List ℕ → Answer → List ℕ → List ℕ → List ℕ → Type 0
+Steps book saved c input area room a saved′ area′ room′ =
+    _≡_ {A = Exit} (record { answer = a; saved = saved′; area = area′; room = room′ })
+      (exitOf (Sessions.call book saved (callBy c input area)) area room)
+
+-- the part that `settings` shows, copied
+pub record Copied : Type 0 where
+  pub length : ℕ
+  pub room : List ℕ
+
+unfoldable pub copiedOf : List ℕ → List ℕ → OurSeid → List ℕ → Copied
+copiedOf book saved s room =
+    let part = settingsCall book saved s .part in
+    record { length = lib.ListN.length part; room = front part room }

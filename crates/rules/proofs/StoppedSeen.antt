@@ -1,0 +1,201 @@
+-- A failed Start or Suspend, of what the saved octets and the reply show: a packet on a right area is a step of the connection
+-- that it shows, and the message that it completes is stopped at the first endpoint that failed.
+use Prim.Native.Nat.{ℕ}
+use native.Mathlib.Omega.{arith}
+use mathlib.Core.Path.{_≡_, refl, sym, ap, _∙_, subst}
+use mathlib.Core.List.{List, [], _∷_}
+use mathlib.Core.Bool.{true, false, _||_}
+use mathlib.Core.Option.{some}
+use lib.ListN.{length, replicate}
+use lib.Dec.{eqb}
+use borrow.Author.Tests.{eqb-true}
+use Rattle.rules.specs.Computed.{computed}
+use Rattle.rules.specs.Octets.{isEmpty, front}
+use Rattle.rules.specs.Book.{Book, bookNumber, bookOf}
+use Rattle.rules.specs.Packets.{Message, gather}
+use Rattle.rules.specs.Endpoints.{Ends, Connection}
+use Rattle.rules.specs.Saved.{areaFor, connectionIn, savedRight}
+use Rattle.rules.specs.Commands.{Reply, silence, generalReject, accept, reject, rejectSeid, Outcome, stays, signalOf}
+use Rattle.rules.specs.Commands.{obey, answer}
+use Rattle.rules.specs.Host.{Told, toldOf, said, nothingSaid, payloadOf, turnOf, takes, packetCall, freshCall}
+use Rattle.rules.specs.Sessions.{packet, event, Answer, number, told, shown, heard, counted, cutOff, call, answered}
+use Rattle.rules.specs.Sessions.{after}
+use Rattle.rules.specs.Views.{Stepped, packetNumber, says, goes}
+use Rattle.rules.specs.Moves.{Stopped, isAccept, turns, mayTurn, turnsTo, RejectSeen, StoppedSeen}
+use Rattle.rules.specs.Table.{traceBook, replyArea, setConfiguration1}
+use Rattle.rules.specs.declared.Event.{Event}
+use Rattle.rules.proofs.Tests.{Told?, passed, failed, told as whether, and-l, and-r, clash}
+use Rattle.rules.proofs.SavedStaysRight.{always-legal, trace-book-right, trace-area-right}
+use Rattle.rules.proofs.Moves.{start-stops, suspend-stops, start-of-none, suspend-of-none}
+use Rattle.rules.proofs.View.{view-step}
+
+-- ---- A Start or a Suspend, by its signal
+
+module _ (book : Book) (ends : Ends) where
+  abbrev StopsBy : List ℕ → ℕ → Type 0
+  StopsBy p signal =
+      isAccept (obey (signalOf signal) book ends p .reply) ≡ false
+      → Stopped (mayTurn signal) (turnsTo signal) book ends p (obey (signalOf signal) book ends p)
+
+  stops-07 : (p : List ℕ) → isEmpty p ≡ false → StopsBy p 0x07
+  unfolding isEmpty mayTurn turnsTo answer
+  stops-07 [] lists = clash refl lists
+  stops-07 (o ∷ os) lists = start-stops book ends 0 o os
+
+  stops-09 : (p : List ℕ) → isEmpty p ≡ false → StopsBy p 0x09
+  unfolding isEmpty mayTurn turnsTo answer
+  stops-09 [] lists = clash refl lists
+  stops-09 (o ∷ os) lists = suspend-stops book ends 0 o os
+
+  stops-by : (p : List ℕ) (signal : ℕ) → isEmpty p ≡ false → eqb signal 0x07 || eqb signal 0x09 ≡ true
+      → Told? (eqb signal 0x07) → StopsBy p signal
+  stops-by p signal lists turn (passed is07) = subst (StopsBy p) (sym (eqb-true signal 0x07 is07)) (stops-07 p lists)
+  stops-by p signal lists turn (failed other) =
+      subst (StopsBy p) (sym (eqb-true signal 0x09 (rw other at turn))) (stops-09 p lists)
+
+  message-stops : (m : Message) → turns m ≡ true → isEmpty (m .payload) ≡ false → isAccept (answer book ends m .reply) ≡ false
+      → Stopped (mayTurn (m .signal)) (turnsTo (m .signal)) book ends (m .payload) (answer book ends m)
+  unfolding turns answer
+  message-stops m turn lists e =
+      let command = and-l (eqb (m .type) 0) (eqb (m .signal) 0x07 || eqb (m .signal) 0x09) turn in
+      let signal = and-r (eqb (m .type) 0) (eqb (m .signal) 0x07 || eqb (m .signal) 0x09) turn in
+      rw command (stops-by (m .payload) (m .signal) lists signal (whether (eqb (m .signal) 0x07)) (rw command at e))
+
+-- One that lists nothing is rejected with SEID 0 and moves none.
+module _ (book : Book) (ends : Ends) where
+  none-by : (signal : ℕ) → eqb signal 0x07 || eqb signal 0x09 ≡ true → Told? (eqb signal 0x07)
+      → obey (signalOf signal) book ends [] ≡ stays ends (reject (0 ∷ 0x11 ∷ []))
+  unfolding answer
+  none-by signal turn (passed is07) =
+      subst (λ (n : ℕ). obey (signalOf n) book ends [] ≡ stays ends (reject (0 ∷ 0x11 ∷ [])))
+        (sym (eqb-true signal 0x07 is07)) (start-of-none book ends 0)
+  none-by signal turn (failed other) =
+      subst (λ (n : ℕ). obey (signalOf n) book ends [] ≡ stays ends (reject (0 ∷ 0x11 ∷ [])))
+        (sym (eqb-true signal 0x09 (rw other at turn))) (suspend-of-none book ends 0)
+
+  message-of-none : (m : Message) → turns m ≡ true → m .payload ≡ [] → answer book ends m ≡ stays ends (reject (0 ∷ 0x11 ∷ []))
+  unfolding turns answer
+  message-of-none m turn lists-none =
+      let command = and-l (eqb (m .type) 0) (eqb (m .signal) 0x07 || eqb (m .signal) 0x09) turn in
+      let signal = and-r (eqb (m .type) 0) (eqb (m .signal) 0x07 || eqb (m .signal) 0x09) turn in
+      rw (command, lists-none) (none-by (m .signal) signal (whether (eqb (m .signal) 0x07)))
+
+-- ---- What a packet shows
+
+toldIn : Answer → Told
+toldIn (number n) = nothingSaid 0
+toldIn (told t reply) = t
+toldIn (shown s) = nothingSaid 0
+toldIn (heard h) = nothingSaid 0
+toldIn (counted n) = nothingSaid 0
+toldIn (cutOff c) = nothingSaid 0
+
+areaIn : Answer → List ℕ
+areaIn (number n) = []
+areaIn (told t reply) = reply
+areaIn (shown s) = []
+areaIn (heard h) = []
+areaIn (counted n) = []
+areaIn (cutOff c) = c .area
+
+rejected : (m : Message) (r : Reply) → toldOf m r .type ≡ 3 → isAccept r ≡ false
+unfolding toldOf said isAccept
+rejected m silence e = refl
+rejected m generalReject e = refl
+rejected m (accept p) e = absurd (omega arith)
+rejected m (reject p) e = refl
+
+module _ (b : List ℕ) (size : ℕ) (saved p reply : List ℕ) (ok : bookNumber b ≡ 0)
+    (right : savedRight (bookOf b) saved ≡ true) (m : Message)
+    (done : gather size (connectionIn (length (bookOf b)) saved .gathering) p .done ≡ some m) where
+  step : Stepped b saved (connectionIn (length (bookOf b)) saved) (packet size p reply)
+  step = view-step b ok saved _ (record { right = right; shows = refl }) (packet size p reply)
+
+  taken : Told? (eqb (packetNumber size reply) 0) → packetCall b size saved p reply .told .type ≡ 3
+      → eqb (packetNumber size reply) 0 ≡ true
+  unfolding call answered says toldIn nothingSaid
+  taken (passed t) e = t
+  taken (failed f) e =
+      let silent : packetCall b size saved p reply .told .type ≡ 0 = ap (λ (a : Answer). toldIn a .type) (step .answer) ∙ rw f in
+      absurd (omega arith)
+
+  module _ (t : eqb (packetNumber size reply) 0 ≡ true) where
+    told-seen : packetCall b size saved p reply .told
+        ≡ toldOf m (answer (bookOf b) (connectionIn (length (bookOf b)) saved .ends) m .reply)
+    unfolding call answered says takes turnOf toldIn
+    told-seen = ap toldIn (step .answer) ∙ rw (t, done)
+
+    reply-seen : packetCall b size saved p reply .reply
+        ≡ front (payloadOf (answer (bookOf b) (connectionIn (length (bookOf b)) saved .ends) m .reply)) reply
+    unfolding call answered says takes turnOf areaIn
+    reply-seen = ap areaIn (step .answer) ∙ rw (t, done)
+
+    ends-seen : connectionIn (length (bookOf b)) (packetCall b size saved p reply .saved) .ends
+        ≡ answer (bookOf b) (connectionIn (length (bookOf b)) saved .ends) m .ends
+    unfolding call answered goes takes turnOf
+    ends-seen = ap (λ (c : Connection). c .ends) (step .next .shows) ∙ rw (t, done)
+
+  -- A packet that completes a Start or a Suspend and is answered with a reject: what the saved octets show is exactly the
+  -- endpoints listed before the failed one moved, and the reply names it.
+  pub packet-stopped : turns m ≡ true → isEmpty (m .payload) ≡ false → packetCall b size saved p reply .told .type ≡ 3
+      → StoppedSeen (bookOf b) (connectionIn (length (bookOf b)) saved .ends) reply m (packetCall b size saved p reply)
+  unfolding rejectSeid toldOf said payloadOf
+  packet-stopped turn lists e =
+      let book = bookOf b in
+      let ends = connectionIn (length book) saved .ends in
+      let t = taken (whether (eqb (packetNumber size reply) 0)) e in
+      let refuses = rejected m (answer book ends m .reply) (sym (ap (λ (x : Told). x .type) (told-seen t)) ∙ e) in
+      let s = message-stops book ends m turn lists refuses in
+      record {
+        before = s .before;
+        failed = s .failed;
+        behind = s .behind;
+        listed = s .listed;
+        might = s .might;
+        moved = ends-seen t ∙ s .moved;
+        mightNot = s .mightNot;
+        named =
+          record {
+            told = told-seen t ∙ ap (toldOf m) (s .named);
+            written = reply-seen t ∙ ap (λ (r : Reply). front (payloadOf r) reply) (s .named)
+          }
+      }
+
+  -- One that lists no endpoint is rejected with SEID 0 and 11h, and moves none.
+  pub packet-of-none : turns m ≡ true → m .payload ≡ [] → packetCall b size saved p reply .told .type ≡ 3
+      → RejectSeen reply m 0 0x11 (packetCall b size saved p reply)
+        × (connectionIn (length (bookOf b)) (packetCall b size saved p reply .saved) .ends
+           ≡ connectionIn (length (bookOf b)) saved .ends)
+  unfolding stays toldOf said payloadOf
+  packet-of-none turn lists-none e =
+      let book = bookOf b in
+      let ends = connectionIn (length book) saved .ends in
+      let t = taken (whether (eqb (packetNumber size reply) 0)) e in
+      let s = message-of-none book ends m turn lists-none in
+      ( record {
+          told = told-seen t ∙ ap (λ (o : Outcome). toldOf m (o .reply)) s;
+          written = reply-seen t ∙ ap (λ (o : Outcome). front (payloadOf (o .reply)) reply) s
+        },
+        ends-seen t ∙ ap (λ (o : Outcome). o .ends) s)
+
+-- ---- The hypotheses can be met: the trace table's Start of both endpoints, of which the first is open with its channel up
+
+unfoldable pub openArea : List ℕ
+openArea =
+    after traceBook (freshCall traceBook (replicate (areaFor 2) 0xDD) .saved)
+      (packet 48 setConfiguration1 replyArea ∷ packet 48 (0x60 ∷ 0x06 ∷ 0x04 ∷ []) replyArea ∷ event Event.Up ∷ [])
+
+open-area-right : savedRight (bookOf traceBook) openArea ≡ true
+unfolding openArea
+open-area-right = always-legal traceBook _ trace-book-right trace-area-right _
+
+abbrev pub startOfBoth : Message
+startOfBoth = record { label = 8; type = 0; signal = 0x07; payload = 0x04 ∷ 0x14 ∷ [] }
+
+pub start-stopped :
+  StoppedSeen (bookOf traceBook) (connectionIn (length (bookOf traceBook)) openArea .ends) replyArea startOfBoth
+    (packetCall traceBook 48 openArea (0x80 ∷ 0x07 ∷ 0x04 ∷ 0x14 ∷ []) replyArea)
+unfolding computed traceBook openArea turns
+start-stopped =
+    packet-stopped traceBook 48 openArea (0x80 ∷ 0x07 ∷ 0x04 ∷ 0x14 ∷ []) replyArea trace-book-right open-area-right startOfBoth
+      refl refl refl refl

@@ -1,0 +1,54 @@
+-- The words of "each call is a function of the connection that the saved octets show": what a call says over a connection and
+-- where the connection goes, on a right book and a right area, where of the refusals only 8, 9 and 10 can be given.
+use Prim.Native.Nat.{ℕ}
+use mathlib.Core.Path.{_≡_}
+use mathlib.Core.List.{List}
+use mathlib.Core.Bool.{true, not}
+use lib.ListN.{length}
+use lib.Dec.{ltb, eqb}
+use Rattle.rules.specs.Octets.{if_then_else_, front}
+use Rattle.rules.specs.Book.{Book, find, bookOf}
+use Rattle.rules.specs.Packets.{sizeRight}
+use Rattle.rules.specs.Endpoints.{Connection, freshConnection, happens}
+use Rattle.rules.specs.Saved.{connectionIn, savedRight}
+use Rattle.rules.specs.Host.{nothingSaid, takes, shownAt, heardAt, packetsCall, cutCall}
+use Rattle.rules.specs.Sessions.{Call, check, fresh, packet, event, settings, delay, packets, cut, Answer, number, told}
+use Rattle.rules.specs.Sessions.{shown, heard, counted, cutOff, call}
+
+-- ---- A call over the connection: what it says, and where the connection goes
+
+-- the refusals of a packet that are left
+unfoldable pub packetNumber : ℕ → List ℕ → ℕ
+packetNumber size reply = if not (sizeRight size) then 8 else if ltb (length reply) 64 then 9 else 0
+
+unfoldable pub says : Book → Connection → Call → Answer
+says book c check = number 0
+says book c fresh = number 0
+says book c (packet size p reply) =
+    if eqb (packetNumber size reply) 0 then told (takes book size c p .told) (front (takes book size c p .payload) reply)
+    else told (nothingSaid (packetNumber size reply)) reply
+says book c (event v) = number (happens book c v .number)
+says book c (settings s) = shown (shownAt (find s book) (c .ends))
+says book c (delay s) = heard (heardAt (find s book) (c .ends))
+says book c (packets size n) = counted (packetsCall size n)
+says book c (cut size m k area) = cutOff (cutCall size m k area)
+
+unfoldable pub goes : Book → Connection → Call → Connection
+goes book c check = c
+goes book c fresh = freshConnection book
+goes book c (packet size p reply) = if eqb (packetNumber size reply) 0 then takes book size c p .connection else c
+goes book c (event v) = happens book c v .connection
+goes book c (settings s) = c
+goes book c (delay s) = c
+goes book c (packets size n) = c
+goes book c (cut size m k area) = c
+
+-- ---- A right area and the connection that it shows, before and after a call
+
+pub record View (b s : List ℕ) (c : Connection) : Type 0 where
+  pub right : savedRight (bookOf b) s ≡ true
+  pub shows : connectionIn (length (bookOf b)) s ≡ c
+
+pub record Stepped (b s : List ℕ) (c : Connection) (k : Call) : Type 0 where
+  pub answer : call b s k .answer ≡ says (bookOf b) c k
+  pub next : View b (call b s k .saved) (goes (bookOf b) c k)
