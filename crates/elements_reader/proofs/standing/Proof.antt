@@ -1,10 +1,10 @@
--- `look` meets its contract: each way out is one of the tests by which `head-end` to `head-whole` tell what stands there.
+-- `standing` meets its contract: each way out is one of the tests by which `head-end` to `head-whole` tell what stands there.
 use borrow.Author.Needs.{needs}
 use Prim.Native.Nat.{_+_}
 use native.Mathlib.Omega.{arith}
-use Rattle.elements.proofs.Standing.{head-end, head-lone, head-cut, head-whole}
-use Rattle.elements.proofs.heads.look.Statement.{statement}
-use Rattle.elements.proofs.heads.look.Tie as tie
+use Rattle.elements_reader.proofs.Stands.{head-end, head-lone, head-cut, head-whole}
+use Rattle.elements_reader.proofs.standing.Statement.{statement}
+use Rattle.elements_reader.proofs.standing.Tie as tie
 
 returns : tie.Need-returns
 returns c = let args = c .before .args in head-end (args .list .now) (args .at) (c .if1 .taken)
@@ -40,8 +40,8 @@ returns-4 c =
     let args = c .before .before .before .before .before .args in
     head-cut (args .list .now) (args .at) (omega arith) (omega arith) (c .if3 .left)
 
-pub look-spec : {M : Type 1} → statement M
-look-spec =
+pub standing-spec : {M : Type 1} → statement M
+standing-spec =
     tie.close
     (tie.spec
     returns
