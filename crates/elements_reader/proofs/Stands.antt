@@ -69,7 +69,8 @@ stands-whole l at c n first e = subst (Stands l at) (sym e) (stands l at)
 
 -- ---- The items from there on
 
-behind : (l : List ℕ) (at : ℕ) {c n : ℕ} {xs : List ℕ} → drop at l ≡ c ∷ n ∷ xs → xs ≡ drop (at + 2) l
+-- what is left behind two octets
+pub behind : (l : List ℕ) (at : ℕ) {c n : ℕ} {xs : List ℕ} → drop at l ≡ c ∷ n ∷ xs → xs ≡ drop (at + 2) l
 behind l at e = sym (ap (drop 2) e) ∙ drop-drop 2 at l
 
 pub items-by : (l : List ℕ) (at : ℕ) → items (drop at l) ≡ itemsBy (elementAt l at) l

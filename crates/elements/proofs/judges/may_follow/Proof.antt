@@ -1,8 +1,8 @@
 -- `may_follow` meets its contract: the two ways to follow, one after the other.
 use borrow.Author.Tests.{lt-ltb, le-ltb, eq-eqb, ne-eqb}
-use Rattle.rules.specs.Book.{mayFollow}
-use Rattle.elements.proofs.walks.may_follow.Statement.{statement}
-use Rattle.elements.proofs.walks.may_follow.Tie as tie
+use Rattle.rules.specs.Elements.{mayFollow}
+use Rattle.elements.proofs.judges.may_follow.Statement.{statement}
+use Rattle.elements.proofs.judges.may_follow.Tie as tie
 
 returns : tie.Need-returns
 unfolding mayFollow

@@ -2,8 +2,8 @@
 use borrow.Author.Tests.{ne-eqb}
 use Rattle.rules.specs.Octets.{member}
 use Rattle.rules.specs.Elements.{offerable}
-use Rattle.elements.proofs.walks.may_offer.Statement.{statement}
-use Rattle.elements.proofs.walks.may_offer.Tie as tie
+use Rattle.elements.proofs.judges.may_offer.Statement.{statement}
+use Rattle.elements.proofs.judges.may_offer.Tie as tie
 
 returns : tie.Need-returns
 unfolding member offerable

@@ -7,8 +7,8 @@ use Rattle.rules.specs.Elements.{categoryOf, isStrange}
 use Rattle.rules.proofs.Tests.{Told?, passed, failed, told}
 use Rattle.rules.proofs.AlikeStep.{above-is-strange}
 use Rattle.elements.proofs.Categories.{at-key, known-there}
-use Rattle.elements.proofs.walks.is_strange.Statement.{statement}
-use Rattle.elements.proofs.walks.is_strange.Tie as tie
+use Rattle.elements.proofs.judges.is_strange.Statement.{statement}
+use Rattle.elements.proofs.judges.is_strange.Tie as tie
 
 not-0 : (c : ℕ) → (c ≡ 0 → ⊥) → ltb 8 c ≡ isStrange (categoryOf c)
 unfolding isStrange

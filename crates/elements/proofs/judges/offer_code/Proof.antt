@@ -9,13 +9,12 @@ use lib.ListN.{length, getD}
 use lib.Dec.{ltb}
 use borrow.Author.Tests.{eq-eqb, ne-eqb, ltb-false, not-true, not-false}
 use Rattle.rules.specs.Octets.{member}
-use Rattle.rules.specs.Elements.{whole, categoryOf, lengthCode, offerable}
-use Rattle.rules.specs.Book.{mayFollow, startRight, offerCode}
-use Rattle.rules.specs.Walks.{seenIn}
-use Rattle.rules.specs.declared.Marks.{Marks}
+use Rattle.rules.specs.Elements.{whole, categoryOf, lengthCode, offerable, mayFollow, startRight, offerCode}
+use Rattle.elements.specs.Marks.{seenIn}
+use Rattle.elements.specs.declared.marks.Marks.{Marks}
 use Rattle.rules.proofs.Tests.{Told?, passed, failed, told}
-use Rattle.elements.proofs.walks.offer_code.Statement.{statement}
-use Rattle.elements.proofs.walks.offer_code.Tie as tie
+use Rattle.elements.proofs.judges.offer_code.Statement.{statement}
+use Rattle.elements.proofs.judges.offer_code.Tie as tie
 
 -- the value of a codec has two octets
 codec-long : (n : ℕ) → lengthCode (categoryOf 7) n ≡ 0 → 2 ≤ n

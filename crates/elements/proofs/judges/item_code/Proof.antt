@@ -7,26 +7,26 @@ use mathlib.Core.Bool.{true, false, not}
 use lib.ListN.{length}
 use borrow.Author.Tests.{eq-eqb, ne-eqb}
 use Rattle.rules.specs.Octets.{member}
-use Rattle.rules.specs.Elements.{Item, whole, items, categoryOf, lengthCode, isStrange, fixed, offered, Asked, itemCode}
-use Rattle.rules.specs.Walks.{markOf, seenIn}
-use Rattle.rules.specs.declared.Marks.{Marks}
-use Rattle.elements.specs.Asks.{askedBy, LastMarked}
+use Rattle.rules.specs.Elements.{Item, whole, items, categoryOf, lengthCode, isStrange, fixed, offered, itemCode}
+use Rattle.rules.specs.declared.Rule.{Rule}
+use Rattle.elements.specs.Marks.{markOf, seenIn, LastMarked}
+use Rattle.elements.specs.declared.marks.Marks.{Marks}
 use Rattle.elements.proofs.Passing.{isMarked, seen-marked}
-use Rattle.elements.proofs.walks.item_code.Statement.{statement}
-use Rattle.elements.proofs.walks.item_code.Tie as tie
+use Rattle.elements.proofs.judges.item_code.Statement.{statement}
+use Rattle.elements.proofs.judges.item_code.Tie as tie
 
-module _ (asked : Asked) (caps : List Item) (m : Marks) (c : ℕ) (v : List ℕ) where
-  code-strange : isStrange (categoryOf c) ≡ true → 0x17 ≡ itemCode asked caps (seenIn m) (whole c v)
+module _ (rule : Rule) (caps : List Item) (m : Marks) (c : ℕ) (v : List ℕ) where
+  code-strange : isStrange (categoryOf c) ≡ true → 0x17 ≡ itemCode rule caps (seenIn m) (whole c v)
   unfolding itemCode
   code-strange e = rw e
 
   module _ (known : isStrange (categoryOf c) ≡ false) where
-    code-fixed : fixed asked (categoryOf c) ≡ true → 0x1A ≡ itemCode asked caps (seenIn m) (whole c v)
+    code-fixed : fixed rule (categoryOf c) ≡ true → 0x1A ≡ itemCode rule caps (seenIn m) (whole c v)
     unfolding itemCode
     code-fixed e = rw (known, e)
 
-    module _ (free : fixed asked (categoryOf c) ≡ false) (right : LastMarked m) where
-      code-seen : (markOf (categoryOf c) m ≡ 0 → ⊥) → 0x18 ≡ itemCode asked caps (seenIn m) (whole c v)
+    module _ (free : fixed rule (categoryOf c) ≡ false) (right : LastMarked m) where
+      code-seen : (markOf (categoryOf c) m ≡ 0 → ⊥) → 0x18 ≡ itemCode rule caps (seenIn m) (whole c v)
       unfolding itemCode isMarked
       code-seen f = rw (known, free, seen-marked c m known right, ne-eqb (markOf (categoryOf c) m) 0 f)
 
@@ -36,17 +36,17 @@ module _ (asked : Asked) (caps : List Item) (m : Marks) (c : ℕ) (v : List ℕ)
         is-new = seen-marked c m known right ∙ ap not (eq-eqb (markOf (categoryOf c) m) 0 new)
 
         code-length : (n : ℕ) → n ≡ lengthCode (categoryOf c) (length v) → (n ≡ 0 → ⊥)
-          → n ≡ itemCode asked caps (seenIn m) (whole c v)
+          → n ≡ itemCode rule caps (seenIn m) (whole c v)
         unfolding itemCode
         code-length n e f = rw (known, free, is-new, ← e, ne-eqb n 0 f)
 
         code-offered : (n : ℕ) → n ≡ lengthCode (categoryOf c) (length v) → n ≡ 0 → offered caps c v ≡ true
-          → 0 ≡ itemCode asked caps (seenIn m) (whole c v)
+          → 0 ≡ itemCode rule caps (seenIn m) (whole c v)
         unfolding itemCode
         code-offered n e z o = rw (known, free, is-new, ← e, z, o)
 
         code-lacking : (n : ℕ) → n ≡ lengthCode (categoryOf c) (length v) → n ≡ 0 → offered caps c v ≡ false
-          → 0x29 ≡ itemCode asked caps (seenIn m) (whole c v)
+          → 0x29 ≡ itemCode rule caps (seenIn m) (whole c v)
         unfolding itemCode
         code-lacking n e z o = rw (known, free, is-new, ← e, z, o)
 
@@ -56,7 +56,7 @@ past-strange c = sym (c .before .is-strange .ensures) ∙ c .if1 .left
 
 past-fixed : (c : tie.Else2)
   → let args = c .before .before .before .before .before .before .args in
-    fixed (askedBy (args .reconfigures)) (categoryOf (args .category)) ≡ false
+    fixed (args .rule) (categoryOf (args .category)) ≡ false
 past-fixed c = sym (c .before .is-fixed .ensures) ∙ c .if2 .left
 
 past-seen : (c : tie.Else3)
@@ -70,7 +70,7 @@ is-strange-requires c κs = search needs
 returns : tie.Need-returns
 returns c =
     let args = c .before .before .before .before .args in
-    code-strange (askedBy (args .reconfigures)) (items (args .caps .now)) (args .marks) (args .category) (args .value .now)
+    code-strange (args .rule) (items (args .caps .now)) (args .marks) (args .category) (args .value .now)
       (sym (c .before .is-strange .ensures) ∙ c .if1 .taken)
 
 is-fixed-requires : tie.Need-is-fixed-requires
@@ -79,7 +79,7 @@ is-fixed-requires c κs = past-strange c
 returns-2 : tie.Need-returns-2
 returns-2 c =
     let args = c .before .before .before .before .before .before .args in
-    code-fixed (askedBy (args .reconfigures)) (items (args .caps .now)) (args .marks) (args .category) (args .value .now)
+    code-fixed (args .rule) (items (args .caps .now)) (args .marks) (args .category) (args .value .now)
       (past-strange (c .before .before)) (sym (c .before .is-fixed .ensures) ∙ c .if2 .taken)
 
 mark-requires : tie.Need-mark-requires
@@ -90,7 +90,7 @@ returns-3 c =
     let unfixed = c .before .before in
     let start = unfixed .before .before .before .before .before .before in
     let args = start .args in
-    code-seen (askedBy (args .reconfigures)) (items (args .caps .now)) (args .marks) (args .category) (args .value .now)
+    code-seen (args .rule) (items (args .caps .now)) (args .marks) (args .category) (args .value .now)
       (past-strange (unfixed .before .before)) (past-fixed unfixed) (start .pre)
       (λ e. c .if3 .taken (c .before .mark .ensures ∙ e))
 
@@ -103,7 +103,7 @@ returns-4 c =
     let unfixed = unseen .before .before in
     let start = unfixed .before .before .before .before .before .before in
     let args = start .args in
-    code-length (askedBy (args .reconfigures)) (items (args .caps .now)) (args .marks) (args .category) (args .value .now)
+    code-length (args .rule) (items (args .caps .now)) (args .marks) (args .category) (args .value .now)
       (past-strange (unfixed .before .before)) (past-fixed unfixed) (start .pre) (past-seen unseen)
       (c .before .length-code .result) (c .before .length-code .ensures) (c .if4 .taken)
 
@@ -117,7 +117,7 @@ returns-5 c =
     let unfixed = unseen .before .before in
     let start = unfixed .before .before .before .before .before .before in
     let args = start .args in
-    code-offered (askedBy (args .reconfigures)) (items (args .caps .now)) (args .marks) (args .category) (args .value .now)
+    code-offered (args .rule) (items (args .caps .now)) (args .marks) (args .category) (args .value .now)
       (past-strange (unfixed .before .before)) (past-fixed unfixed) (start .pre) (past-seen unseen)
       (long .before .length-code .result) (long .before .length-code .ensures) (long .if4 .left)
       (sym (c .before .offers .ensures) ∙ c .if5 .taken)
@@ -129,7 +129,7 @@ returns-6 c =
     let unfixed = unseen .before .before in
     let start = unfixed .before .before .before .before .before .before in
     let args = start .args in
-    code-lacking (askedBy (args .reconfigures)) (items (args .caps .now)) (args .marks) (args .category) (args .value .now)
+    code-lacking (args .rule) (items (args .caps .now)) (args .marks) (args .category) (args .value .now)
       (past-strange (unfixed .before .before)) (past-fixed unfixed) (start .pre) (past-seen unseen)
       (long .before .length-code .result) (long .before .length-code .ensures) (long .if4 .left)
       (sym (c .before .offers .ensures) ∙ c .if5 .left)
