@@ -245,7 +245,7 @@ fine-code rule caps seen c v f new = rw (f .known, f .free, new, f .long, f .giv
 
 -- no fault over a list, and none over its parts
 module _ (f later : Fault) (e : faultOr f later .code ≡ 0) where
-  clean-head : f .code ≡ 0
+  pub clean-head : f .code ≡ 0
   unfolding faultOr
   clean-head = go (told (eqb (f .code) 0))
     where
@@ -253,19 +253,19 @@ module _ (f later : Fault) (e : faultOr f later .code ≡ 0) where
       go (passed t) = eqb-true (f .code) 0 t
       go (failed t) = rw t at e
 
-  clean-tail : later .code ≡ 0
+  pub clean-tail : later .code ≡ 0
   unfolding faultOr
   clean-tail = rw (eq-eqb (f .code) 0 clean-head) at e
 
 -- the rule of a command: each element is judged by `itemCode`
-abbrev Asks : Rule → Type 0
+abbrev pub Asks : Rule → Type 0
 Asks rule = (caps : List Item) (seen : List ℕ) (i : Item) → judge rule caps seen i ≡ itemCode rule caps seen i
 
-setting-asks : Asks Setting
+pub setting-asks : Asks Setting
 unfolding judge
 setting-asks caps seen i = refl
 
-reconfiguring-asks : Asks Reconfiguring
+pub reconfiguring-asks : Asks Reconfiguring
 unfolding judge
 reconfiguring-asks caps seen i = refl
 
