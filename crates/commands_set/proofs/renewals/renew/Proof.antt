@@ -44,7 +44,7 @@ slice-aggregate-old : tie.Need-slice-aggregate-old
 slice-aggregate-old c = sym (length-take-le _ _ (copy-room (c .before)))
 
 check-requires : tie.Need-check-requires
-check-requires c κs = old-short (start-of (c .before .before .before .before) .pre) (old-same c)
+check-requires c κs = (old-short (start-of (c .before .before .before .before) .pre) (old-same c), tt)
 
 enum-told : tie.Need-enum-told
 enum-told c = search needs

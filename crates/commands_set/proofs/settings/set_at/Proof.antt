@@ -61,8 +61,8 @@ returns c =
     busy-refused (start .pre .0) (start .pre .2) (start .pre .1) (got .get .ensures)
       (sym (busy .before .is-idle .ensures) ∙ not-true _ (busy .if1 .taken)) (c .before .before .refuse-plain .ensures)
 
-shared-slice-read-t22 : tie.Need-shared-slice-read-t22
-shared-slice-read-t22 c = search needs
+shared-slice-read-t21 : tie.Need-shared-slice-read-t21
+shared-slice-read-t21 c = search needs
 
 far-right-requires : tie.Need-far-right-requires
 far-right-requires c κs = search needs
@@ -163,7 +163,7 @@ set-at-spec =
     same-length
     same-length-2
     returns
-    shared-slice-read-t22
+    shared-slice-read-t21
     far-right-requires
     refuse-plain-requires-2
     same-length-3
