@@ -7,26 +7,27 @@ use mathlib.Core.Bool.{true, false}
 use native.Mathlib.Nat.{le-trans}
 use native.Mathlib.Omega.{arith}
 use lib.ListN.{length, take, drop}
-use borrow.Author.Tests.{eqb-true}
-use Rattle.rules.specs.Elements.{items, reconfiguring, faultIn, firstFault, restored, couldStore}
+use Rattle.rules.specs.Elements.{items, faultIn, restored, couldStore}
 use Rattle.rules.specs.Book.{Entry, bookOf}
-use Rattle.rules.specs.Walks.{noMarks, marksFrom, judge, walkOf, settingOf}
 use Rattle.rules.specs.Endpoints.{Endpoint, Ends, isIdle, withConfig, endAt}
 use Rattle.rules.specs.Saved.{recordRoom, configRoom}
-use Rattle.rules.specs.Commands.{accept, stays, moves, rejectElement, isOpen, reconfigureAt, reconfigure}
+use Rattle.rules.specs.Commands.{accept, stays, moves, rejectElement, rejectPlain, isOpen, reconfigureAt, reconfigure}
 use Rattle.rules.specs.Answers.{saidOf}
 use Rattle.rules.specs.declared.Said.{Said}
-use Rattle.rules.specs.declared.Marks.{Marks}
-use Rattle.rules.specs.declared.Rule.the-variants.{Reconfiguring}
-use Rattle.rules.specs.declared.Walked.{Walked}
-use Rattle.rules.specs.declared.Walked.the-variants.{Fault as Failed, Clean}
+use Rattle.rules.specs.declared.Rule.the-variants.{Setting, Reconfiguring}
+use Rattle.rules.specs.declared.Fault.{Fault}
 use Rattle.rules.proofs.LegalMoves.{busy-keeps, keeps-config}
 use Rattle.rules.proofs.Storable.{restored-could, could-short}
 use Rattle.octets.specs.Patch.{patch, part}
 use Rattle.octets.proofs.Patches.{part-patch}
-use Rattle.elements.proofs.Judging.{walk-begun, walk-clean}
+use Rattle.elements.specs.Marks.{noMarks, marksFrom}
+use Rattle.elements.specs.Walks.{checkOf}
+use Rattle.elements.specs.declared.marks.Marks.{Marks}
+use Rattle.elements.specs.declared.walks.Walked.{Walked}
+use Rattle.elements.specs.declared.walks.Walked.the-variants.{Failed, Clean}
+use Rattle.elements.proofs.Judging.{check-clean}
 use Rattle.elements_stored.specs.Stores.{markedStore, MarksFit}
-use Rattle.elements_stored.proofs.Stores.{Stores, could-setting, again-stores}
+use Rattle.elements_stored.proofs.Stores.{Stores, could-checked, again-stores}
 use Rattle.saved.specs.Records.{loaded, endpointOf, recordAt, configSizeAt, configAt}
 use Rattle.saved.specs.Moved.{reconfiguredHead}
 use Rattle.saved.specs.Serves.{Serves}
@@ -60,10 +61,8 @@ module _ {caps records payload : List ℕ} {i : ℕ} {h : Head} {m : Marks} (r :
   pub size-short : h .length ≤ 64
   size-short = omega (arith, size-told, config-short)
 
-  -- no fault, with no category seen before
-  fine : faultIn reconfiguring (items caps) [] (items (drop 1 payload)) .code ≡ 0
-  unfolding faultIn judge
-  fine = eqb-true _ 0 (walk-clean Reconfiguring (items caps) payload 1 m (sym (r .clean)) .0)
+  fine : faultIn Reconfiguring (items caps) (items (drop 1 payload)) .code ≡ 0
+  fine = check-clean Reconfiguring (items caps) payload 1 m (sym (r .clean)) .0
 
   pub anew-short : length anew ≤ 64
   anew-short =
@@ -87,15 +86,15 @@ module _ {caps records payload : List ℕ} {i : ℕ} {h : Head} {m : Marks} (r :
     old-short = omega (arith, ap length same, config-short)
 
     -- what is stored has no fault
-    pub never : {A : Type 0} {c code : ℕ} → settingOf (items caps) old 0 ≡ Failed c code → A
-    never {A} {c} {code} e =
-        let p : Clean (marksFrom (configAt i records) 0 noMarks) ≡ Failed c code =
-              sym (could-setting (items caps) (configAt i records) (r .could))
-              ∙ ap (λ (l : List ℕ). settingOf (items caps) l 0) (sym same) ∙ e in
+    pub never : {A : Type 0} {f : Fault} → checkOf Setting (items caps) old 0 ≡ Failed f → A
+    never {A} {f} e =
+        let p : Clean (marksFrom (configAt i records) 0 noMarks) ≡ Failed f =
+              sym (could-checked (items caps) (configAt i records) (r .could))
+              ∙ ap (λ (l : List ℕ). checkOf Setting (items caps) l 0) (sym same) ∙ e in
         let z : _≡_ {A = ℕ} 0 1 = cc in
         absurd (omega arith)
 
-    module _ {k : Marks} (e : settingOf (items caps) old 0 ≡ Clean k) where
+    module _ {k : Marks} (e : checkOf Setting (items caps) old 0 ≡ Clean k) where
       stores : Stores payload m old k (restored (items (drop 1 payload)) (items old))
       stores = again-stores (items caps) payload 1 old (r .clean) e
 
@@ -115,24 +114,23 @@ module _ {caps records payload : List ℕ} {i : ℕ} {h : Head} {m : Marks} (r :
 -- ---- By the checks in order
 
 module _ (ends : Ends) (p : List ℕ) (i : ℕ) (n : Entry) where
-  anew-idle : isIdle (endAt ends i .state) ≡ true → reconfigureAt ends p i n ≡ stays ends (rejectElement 0 0x14)
+  anew-idle : isIdle (endAt ends i .state) ≡ true → reconfigureAt ends p i n ≡ stays ends (rejectPlain 0x14)
   unfolding reconfigureAt
   anew-idle idle = rw idle
 
   module _ (busy : isIdle (endAt ends i .state) ≡ false) where
-    anew-closed : isOpen (endAt ends i .state) ≡ false → reconfigureAt ends p i n ≡ stays ends (rejectElement 0 0x31)
+    anew-closed : isOpen (endAt ends i .state) ≡ false → reconfigureAt ends p i n ≡ stays ends (rejectPlain 0x31)
     unfolding reconfigureAt
     anew-closed closed = rw (busy, closed)
 
-    anew-checked : {w : Walked} → isOpen (endAt ends i .state) ≡ true → walkOf Reconfiguring (items (n .caps)) p 1 noMarks ≡ w
+    anew-checked : {w : Walked} → isOpen (endAt ends i .state) ≡ true → checkOf Reconfiguring (items (n .caps)) p 1 ≡ w
       → reconfigureAt ends p i n
         ≡ answered ends
             (moves ends i (withConfig (restored (items (drop 1 p)) (items (endAt ends i .config))) (endAt ends i))) w
-    unfolding reconfigureAt faultIn judge
+    unfolding reconfigureAt checkOf
     anew-checked opened e =
         rw (busy, opened)
-          (fault-answered (firstFault (judge Reconfiguring (items (n .caps))) [] (items (drop 1 p))) (marksFrom p 1 noMarks)
-            ends _ (sym (walk-begun Reconfiguring (items (n .caps)) p 1) ∙ e))
+          (fault-answered (faultIn Reconfiguring (items (n .caps)) (items (drop 1 p))) (marksFrom p 1 noMarks) ends _ e)
 
 -- the endpoint that is configured anew
 anew-as : (h : Head) (old config : List ℕ)
@@ -146,7 +144,7 @@ module _ {book records payload reply : List ℕ} {i from size : ℕ} (serves : S
     (names : Names book payload i from size) {h : Head} (here : h ≡ loaded (recordAt i records)) where
   -- what the check of the elements finds
   abbrev Finds : Walked → Type 0
-  Finds w = walkOf Reconfiguring (items (take size (drop from book))) payload 1 noMarks ≡ w
+  Finds w = checkOf Reconfiguring (items (take size (drop from book))) payload 1 ≡ w
 
   config-here : endAt (endsOf book records) i .config ≡ configAt i records
   unfolding endpointOf
@@ -177,16 +175,16 @@ module _ {book records payload reply : List ℕ} {i from size : ℕ} (serves : S
     outcome = there serves names 3 reconfigureAt long
 
     pub idle-refused : isIdle (h .state) ≡ true
-      → {said : Said} {reply′ : List ℕ} → Refuses reconfigure book records payload reply 0 0x14 said reply′
+      → {said : Said} {reply′ : List ℕ} → Refuses reconfigure book records payload reply (rejectPlain 0x14) said reply′
     idle-refused idle =
-        refused reconfigure serves 0 0x14
+        refused reconfigure serves (rejectPlain 0x14)
           (outcome ∙ anew-idle (endsOf book records) payload i (entry serves names) (state-here serves names here isIdle idle))
 
     module _ (busy : isIdle (h .state) ≡ false) where
       pub closed-refused : isOpen (h .state) ≡ false
-        → {said : Said} {reply′ : List ℕ} → Refuses reconfigure book records payload reply 0 0x31 said reply′
+        → {said : Said} {reply′ : List ℕ} → Refuses reconfigure book records payload reply (rejectPlain 0x31) said reply′
       closed-refused closed =
-          refused reconfigure serves 0 0x31
+          refused reconfigure serves (rejectPlain 0x31)
             (outcome
              ∙ anew-closed (endsOf book records) payload i (entry serves names) (state-here serves names here isIdle busy)
                  (state-here serves names here isOpen closed))
@@ -204,9 +202,9 @@ module _ {book records payload reply : List ℕ} {i from size : ℕ} (serves : S
             ∙ anew-checked (endsOf book records) payload i (entry serves names) (state-here serves names here isIdle busy)
                 (state-here serves names here isOpen opened) e
 
-        pub fault-refused : {c code : ℕ} → Finds (Failed c code)
-          → {said : Said} {reply′ : List ℕ} → Refuses reconfigure book records payload reply c code said reply′
-        fault-refused {c} {code} e = refused reconfigure serves c code (checked e)
+        pub fault-refused : {f : Fault} → Finds (Failed f)
+          → {said : Said} {reply′ : List ℕ} → Refuses reconfigure book records payload reply (rejectElement f) said reply′
+        fault-refused {f} e = refused reconfigure serves (rejectElement f) (checked e)
 
         pub anew-moves : {m : Marks} {said : Said} {records′ : List ℕ} → Finds (Clean m) → said ≡ saidOf (accept [])
           → records′

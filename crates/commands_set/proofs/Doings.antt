@@ -9,24 +9,25 @@ use lib.ListN.{length, take, drop, getD}
 use lib.Dec.{leb, eqb}
 use borrow.Author.Tests.{le-leb, lt-leb}
 use Rattle.rules.specs.Octets.{if_then_else_, front}
-use Rattle.rules.specs.Elements.{Fault}
 use Rattle.rules.specs.Book.{Entry, Book, bookOf}
-use Rattle.rules.specs.Walks.{walkedAs, placeIn}
+use Rattle.rules.specs.Walks.{placeIn}
 use Rattle.rules.specs.Endpoints.{Endpoint, Ends, endAt}
 use Rattle.rules.specs.Saved.{recordRoom, headRoom}
-use Rattle.rules.specs.Commands.{accept, reject, Outcome, stays, moves, rejectElement, ourIn, atEndpoint}
+use Rattle.rules.specs.Commands.{Reply, accept, Outcome, stays, moves, rejectElement, rejectPlain, ourIn, atEndpoint}
 use Rattle.rules.specs.Host.{payloadOf}
 use Rattle.rules.specs.Answers.{saidOf}
 use Rattle.rules.specs.declared.Said.{Said}
-use Rattle.rules.specs.declared.Marks.{Marks}
+use Rattle.rules.specs.declared.Fault.{Fault}
 use Rattle.rules.specs.declared.State.{State}
-use Rattle.rules.specs.declared.Walked.{Walked}
-use Rattle.rules.specs.declared.Walked.the-variants.{Fault as Failed, Clean}
 use Rattle.rules.specs.declared.Place.the-variants.{Unknown}
 use Rattle.rules.proofs.Tests.{Told?, told, passed, failed}
 use Rattle.rules.proofs.ShortReplies.{caps-short}
 use Rattle.octets.specs.Patch.{patch}
 use Rattle.octets.proofs.Patches.{patch-comm, patch-append}
+use Rattle.elements.specs.Walks.{walkedAs}
+use Rattle.elements.specs.declared.marks.Marks.{Marks}
+use Rattle.elements.specs.declared.walks.Walked.{Walked}
+use Rattle.elements.specs.declared.walks.Walked.the-variants.{Failed, Clean}
 use Rattle.book.proofs.Found.{entryBy}
 use Rattle.saved.specs.Records.{loaded, endpointOf, headOctets, recordAt, configAt}
 use Rattle.saved.specs.Moved.{reconfiguredHead}
@@ -41,39 +42,37 @@ use Rattle.commands_set.specs.Kept.{Names, keptOctets}
 
 -- a command whose payload has at least so many octets and names an endpoint in the first
 abbrev pub commandAt : ℕ → (Ends → List ℕ → ℕ → Entry → Outcome) → Book → Ends → List ℕ → Outcome
-commandAt least on book ends p = atEndpoint (rejectElement 0) (leb least (length p)) book ends p (on ends p)
+commandAt least on book ends p = atEndpoint rejectPlain (leb least (length p)) book ends p (on ends p)
 
 -- what is answered by what the check of the elements finds: its fault, or where there is none the outcome o
 abbrev pub answered : Ends → Outcome → Walked → Outcome
-answered ends o (Failed c code) = stays ends (rejectElement c code)
+answered ends o (Failed f) = stays ends (rejectElement f)
 answered ends o (Clean m) = o
 
 pub fault-answered : (f : Fault) (m : Marks) (ends : Ends) (o : Outcome) {w : Walked} → walkedAs f m ≡ w
-  → (if not (eqb (f .code) 0) then stays ends (rejectElement (f .category) (f .code)) else o) ≡ answered ends o w
+  → (if not (eqb (f .code) 0) then stays ends (rejectElement f) else o) ≡ answered ends o w
 unfolding walkedAs
 fault-answered f m ends o e = go (told (eqb (f .code) 0)) ∙ ap (answered ends o) e
   where
     go : Told? (eqb (f .code) 0)
-        → (if not (eqb (f .code) 0) then stays ends (rejectElement (f .category) (f .code)) else o)
+        → (if not (eqb (f .code) 0) then stays ends (rejectElement f) else o)
           ≡ answered ends o (walkedAs f m)
     go (passed z) = rw z
     go (failed z) = rw z
 
 -- ---- What is done
 
--- a reject of two octets leaves every octet of the records
-abbrev pub Refuses : (Book → Ends → List ℕ → Outcome) → List ℕ → List ℕ → List ℕ → List ℕ → ℕ → ℕ → Said → List ℕ → Type 0
-Refuses command book records payload reply c code said reply′ =
-    (said ≡ saidOf (reject (c ∷ code ∷ []))) × (reply′ ≡ front (c ∷ code ∷ []) reply)
-    → Obeys command book records payload reply said records reply′
+-- a reply that is a reject leaves every octet of the records
+abbrev pub Refuses : (Book → Ends → List ℕ → Outcome) → List ℕ → List ℕ → List ℕ → List ℕ → Reply → Said → List ℕ → Type 0
+Refuses command book records payload reply r said reply′ =
+    (said ≡ saidOf r) × (reply′ ≡ front (payloadOf r) reply) → Obeys command book records payload reply said records reply′
 
 module _ (command : Book → Ends → List ℕ → Outcome) {book records payload reply : List ℕ}
     (serves : Serves book records payload reply) where
-  pub refused : (c code : ℕ) {said : Said} {reply′ : List ℕ}
-    → command (bookOf book) (endsOf book records) payload ≡ stays (endsOf book records) (rejectElement c code)
-    → Refuses command book records payload reply c code said reply′
-  unfolding rejectElement payloadOf
-  refused c code e wrote = obeys-stay command serves (rejectElement c code) e (wrote .0) (wrote .1)
+  pub refused : (r : Reply) {said : Said} {reply′ : List ℕ}
+    → command (bookOf book) (endsOf book records) payload ≡ stays (endsOf book records) r
+    → Refuses command book records payload reply r said reply′
+  refused r e wrote = obeys-stay command serves r e (wrote .0) (wrote .1)
 
   -- an endpoint is moved, and its record is written
   pub moved : (i : ℕ) (h : Head) (config : List ℕ) {e : Endpoint} {said : Said} {records′ : List ℕ}
@@ -108,16 +107,16 @@ kept-by i h h′ config l b b′ n inside short wrote same set =
 module _ (least : ℕ) (on : Ends → List ℕ → ℕ → Entry → Outcome) {book records payload reply : List ℕ}
     (serves : Serves book records payload reply) where
   pub short-refused : length payload < least
-    → {said : Said} {reply′ : List ℕ} → Refuses (commandAt least on) book records payload reply 0 0x11 said reply′
+    → {said : Said} {reply′ : List ℕ} → Refuses (commandAt least on) book records payload reply (rejectPlain 0x11) said reply′
   short-refused short =
-      refused (commandAt least on) serves 0 0x11
-        (at-wrong (rejectElement 0) _ book (endsOf book records) payload _ (lt-leb least (length payload) short))
+      refused (commandAt least on) serves (rejectPlain 0x11)
+        (at-wrong rejectPlain _ book (endsOf book records) payload _ (lt-leb least (length payload) short))
 
   pub unknown-refused : least ≤ length payload → placeIn (ourIn (getD payload 0 0)) book ≡ Unknown
-    → {said : Said} {reply′ : List ℕ} → Refuses (commandAt least on) book records payload reply 0 0x12 said reply′
+    → {said : Said} {reply′ : List ℕ} → Refuses (commandAt least on) book records payload reply (rejectPlain 0x12) said reply′
   unknown-refused long e =
-      refused (commandAt least on) serves 0 0x12
-        (at-unknown (rejectElement 0) _ book (endsOf book records) payload _ (le-leb least (length payload) long) e)
+      refused (commandAt least on) serves (rejectPlain 0x12)
+        (at-unknown rejectPlain _ book (endsOf book records) payload _ (le-leb least (length payload) long) e)
 
 -- ---- The endpoint that the payload names
 
@@ -136,7 +135,7 @@ module _ {book records payload reply : List ℕ} {i from size : ℕ} (serves : S
   pub there : (least : ℕ) (on : Ends → List ℕ → ℕ → Entry → Outcome) → least ≤ length payload
     → commandAt least on (bookOf book) (endsOf book records) payload ≡ on (endsOf book records) payload i entry
   there least on long =
-      at-known (rejectElement 0) _ book (endsOf book records) payload _ (le-leb least (length payload) long) i entry (met .found)
+      at-known rejectPlain _ book (endsOf book records) payload _ (le-leb least (length payload) long) i entry (met .found)
 
   module _ {h : Head} (here : h ≡ loaded (recordAt i records)) where
     pub end-here : endAt (endsOf book records) i ≡ endpointOf h (configAt i records)

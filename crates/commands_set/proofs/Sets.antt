@@ -5,22 +5,26 @@ use mathlib.Core.List.{List, []}
 use mathlib.Core.Bool.{true, false}
 use native.Mathlib.Nat.{le-trans}
 use lib.ListN.{length, take, drop, getD}
-use Rattle.rules.specs.Elements.{items, settingFault, stored}
+use Rattle.rules.specs.Elements.{items, faultIn, stored}
 use Rattle.rules.specs.Book.{Entry, bookOf}
-use Rattle.rules.specs.Walks.{noMarks, marksFrom, settingOf}
 use Rattle.rules.specs.Endpoints.{Endpoint, Ends, isIdle, farRight, endAt}
 use Rattle.rules.specs.Saved.{recordRoom}
-use Rattle.rules.specs.Commands.{accept, stays, moves, rejectElement, farIn, settled, setAt, setConfiguration}
+use Rattle.rules.specs.Commands.{accept, stays, moves, rejectElement, rejectPlain, farIn, settled, setAt, setConfiguration}
 use Rattle.rules.specs.Answers.{saidOf}
 use Rattle.rules.specs.declared.Said.{Said}
 use Rattle.rules.specs.declared.FarSeid.{FarSeid}
-use Rattle.rules.specs.declared.Marks.{Marks}
-use Rattle.rules.specs.declared.Walked.{Walked}
-use Rattle.rules.specs.declared.Walked.the-variants.{Fault as Failed, Clean}
+use Rattle.rules.specs.declared.Rule.the-variants.{Setting}
+use Rattle.rules.specs.declared.Fault.{Fault}
 use Rattle.rules.proofs.Storable.{stored-could, could-short}
 use Rattle.octets.specs.Patch.{patch}
+use Rattle.elements.specs.Marks.{noMarks, marksFrom}
+use Rattle.elements.specs.Walks.{checkOf}
+use Rattle.elements.specs.declared.marks.Marks.{Marks}
+use Rattle.elements.specs.declared.walks.Walked.{Walked}
+use Rattle.elements.specs.declared.walks.Walked.the-variants.{Failed, Clean}
+use Rattle.elements.proofs.Judging.{check-clean}
 use Rattle.elements_stored.specs.Stores.{markedStore, MarksFit}
-use Rattle.elements_stored.proofs.Stores.{walked-clean, set-stores}
+use Rattle.elements_stored.proofs.Stores.{set-stores}
 use Rattle.saved.specs.Records.{loaded, endpointOf, recordAt, configAt}
 use Rattle.saved.specs.Moved.{settledHead, reconfiguredHead}
 use Rattle.saved.specs.Serves.{Serves}
@@ -33,27 +37,27 @@ use Rattle.commands_set.proofs.Doings.{end-here, state-here}
 -- ---- By the checks in order
 
 module _ (ends : Ends) (p : List ℕ) (i : ℕ) (n : Entry) where
-  set-busy : isIdle (endAt ends i .state) ≡ false → setAt ends p i n ≡ stays ends (rejectElement 0 0x13)
+  set-busy : isIdle (endAt ends i .state) ≡ false → setAt ends p i n ≡ stays ends (rejectPlain 0x13)
   unfolding setAt
   set-busy busy = rw busy
 
   module _ (free : isIdle (endAt ends i .state) ≡ true) where
-    set-far : farRight (farIn (getD p 1 0)) ≡ false → setAt ends p i n ≡ stays ends (rejectElement 0 0x18)
+    set-far : farRight (farIn (getD p 1 0)) ≡ false → setAt ends p i n ≡ stays ends (rejectPlain 0x18)
     unfolding setAt
     set-far wrong = rw (free, wrong)
 
-    set-checked : {w : Walked} → farRight (farIn (getD p 1 0)) ≡ true → settingOf (items (n .caps)) p 2 ≡ w
+    set-checked : {w : Walked} → farRight (farIn (getD p 1 0)) ≡ true → checkOf Setting (items (n .caps)) p 2 ≡ w
       → setAt ends p i n
         ≡ answered ends (moves ends i (settled (endAt ends i) (farIn (getD p 1 0)) (stored (items (drop 2 p))))) w
-    unfolding setAt settingOf
+    unfolding setAt checkOf
     set-checked right e =
-        rw (free, right) (fault-answered (settingFault (items (n .caps)) (items (drop 2 p))) (marksFrom p 2 noMarks) ends _ e)
+        rw (free, right) (fault-answered (faultIn Setting (items (n .caps)) (items (drop 2 p))) (marksFrom p 2 noMarks) ends _ e)
 
 -- what is stored is no longer than the list that offers it
-stored-short : (l p : List ℕ) {m : Marks} → settingOf (items l) p 2 ≡ Clean m → length (stored (items (drop 2 p))) ≤ length l
-unfolding settingOf
-stored-short l p e =
-    let clean = walked-clean (settingFault (items l) (items (drop 2 p))) (marksFrom p 2 noMarks) e .0 in
+stored-short : (l p : List ℕ) {m : Marks} → checkOf Setting (items l) p 2 ≡ Clean m
+  → length (stored (items (drop 2 p))) ≤ length l
+stored-short l p {m} e =
+    let clean = check-clean Setting (items l) p 2 m (sym e) .0 in
     could-short l (stored (items (drop 2 p))) (stored-could (items l) (items (drop 2 p)) clean)
 
 -- the endpoint that is settled
@@ -68,7 +72,7 @@ module _ {book records payload reply : List ℕ} {i from size : ℕ} (serves : S
     (names : Names book payload i from size) where
   -- what the check of the elements finds
   abbrev Finds : Walked → Type 0
-  Finds w = settingOf (items (take size (drop from book))) payload 2 ≡ w
+  Finds w = checkOf Setting (items (take size (drop from book))) payload 2 ≡ w
 
   config-short : {m : Marks} → Finds (Clean m) → length (stored (items (drop 2 payload))) ≤ 64
   config-short e = le-trans (stored-short (take size (drop from book)) payload e) (few serves names)
@@ -95,16 +99,16 @@ module _ {book records payload reply : List ℕ} {i from size : ℕ} (serves : S
     outcome = there serves names 2 setAt long
 
     pub busy-refused : isIdle (h .state) ≡ false
-      → {said : Said} {reply′ : List ℕ} → Refuses setConfiguration book records payload reply 0 0x13 said reply′
+      → {said : Said} {reply′ : List ℕ} → Refuses setConfiguration book records payload reply (rejectPlain 0x13) said reply′
     busy-refused busy =
-        refused setConfiguration serves 0 0x13
+        refused setConfiguration serves (rejectPlain 0x13)
           (outcome ∙ set-busy (endsOf book records) payload i (entry serves names) (state-here serves names here isIdle busy))
 
     module _ (free : isIdle (h .state) ≡ true) where
       pub far-refused : farRight (farIn (getD payload 1 0)) ≡ false
-        → {said : Said} {reply′ : List ℕ} → Refuses setConfiguration book records payload reply 0 0x18 said reply′
+        → {said : Said} {reply′ : List ℕ} → Refuses setConfiguration book records payload reply (rejectPlain 0x18) said reply′
       far-refused wrong =
-          refused setConfiguration serves 0 0x18
+          refused setConfiguration serves (rejectPlain 0x18)
             (outcome
              ∙ set-far (endsOf book records) payload i (entry serves names) (state-here serves names here isIdle free) wrong)
 
@@ -119,9 +123,9 @@ module _ {book records payload reply : List ℕ} {i from size : ℕ} (serves : S
             outcome
             ∙ set-checked (endsOf book records) payload i (entry serves names) (state-here serves names here isIdle free) right e
 
-        pub fault-refused : {c code : ℕ} → Finds (Failed c code)
-          → {said : Said} {reply′ : List ℕ} → Refuses setConfiguration book records payload reply c code said reply′
-        fault-refused {c} {code} e = refused setConfiguration serves c code (checked e)
+        pub fault-refused : {f : Fault} → Finds (Failed f)
+          → {said : Said} {reply′ : List ℕ} → Refuses setConfiguration book records payload reply (rejectElement f) said reply′
+        fault-refused {f} e = refused setConfiguration serves (rejectElement f) (checked e)
 
         pub set-moves : {m k : Marks} {h′ : Head} {said : Said} {records′ : List ℕ}
           → Finds (Clean m) → k ≡ noMarks → h′ ≡ settledHead (farIn (getD payload 1 0)) 0 h → said ≡ saidOf (accept [])

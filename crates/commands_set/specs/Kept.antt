@@ -5,13 +5,14 @@ use mathlib.Core.List.{List, _++_}
 use mathlib.Core.Bool.{true}
 use lib.ListN.{length, getD}
 use Rattle.rules.specs.Elements.{items, couldStore}
-use Rattle.rules.specs.Walks.{noMarks, walkOf, placeIn}
+use Rattle.rules.specs.Walks.{placeIn}
 use Rattle.rules.specs.Saved.{recordRoom, configRoom}
 use Rattle.rules.specs.Commands.{ourIn}
-use Rattle.rules.specs.declared.Marks.{Marks}
 use Rattle.rules.specs.declared.Rule.the-variants.{Reconfiguring}
-use Rattle.rules.specs.declared.Walked.the-variants.{Clean}
 use Rattle.rules.specs.declared.Place.the-variants.{Known}
+use Rattle.elements.specs.Walks.{checkOf}
+use Rattle.elements.specs.declared.marks.Marks.{Marks}
+use Rattle.elements.specs.declared.walks.Walked.the-variants.{Clean}
 use Rattle.saved.specs.Records.{loaded, headOctets, recordAt, configSizeAt, configAt}
 use Rattle.saved.specs.Moved.{reconfiguredHead}
 use Rattle.saved.specs.declared.records.Endpoint.{Endpoint as Head}
@@ -33,4 +34,4 @@ pub record Renews (caps records payload : List ℕ) (i : ℕ) (h : Head) (m : Ma
   pub told : configSizeAt i records ≤ configRoom
   pub could : couldStore (items caps) (configAt i records) ≡ true
   pub few : length caps ≤ 64
-  pub clean : walkOf Reconfiguring (items caps) payload 1 noMarks ≡ Clean m
+  pub clean : checkOf Reconfiguring (items caps) payload 1 ≡ Clean m

@@ -1,6 +1,6 @@
 // A configuration written into its endpoint's record, once, with the head that tells its length.
+use elements::marks::Marks;
 use elements_stored::config::store;
-use rules::Marks;
 use rules::layout::HEAD;
 use rules::layout::RECORD;
 use saved::moves::reconfigured;

@@ -1,13 +1,15 @@
 // Reconfigure.
 use crate::keeps::keep;
+use crate::refusals::refuse;
+use crate::refusals::refuse_plain;
 use book::places::place;
-use elements::walks::setting;
-use elements_reader::renewed_elements;
-use rules::Marks;
+use elements::marks::Marks;
+use elements::walks::check;
+use elements::walks::Walked;
 use rules::OurSeid;
 use rules::Place;
+use rules::Rule;
 use rules::Said;
-use rules::Walked;
 use saved::records::config;
 use saved::records::get;
 use saved::records::Endpoint;
@@ -39,10 +41,10 @@ fn renew(caps: &[u8], records: &mut [u8], payload: &[u8], index: usize, head: En
     let size = head.length as usize;
     octets::put(&mut copy, 0, config(records, index));
     let old = &copy[..size];
-    let walked = setting(caps, old, 0);
+    let walked = check(Rule::Setting, caps, old, 0);
     match walked {
         // never: what is stored was checked
-        Walked::Fault { category: _, code: _ } => {}
+        Walked::Failed(_) => {}
         Walked::Clean(left) => keep(records, index, head, payload, marks, old, left),
     }
 }
@@ -57,15 +59,15 @@ fn renew_at(book: &[u8], records: &mut [u8], payload: &[u8], reply: &mut [u8], i
     let e = get(records, index);
     let state = e.state;
     if is_idle(state) {
-        return commands_reply::rejected_for(reply, 0, 0x14);
+        return refuse_plain(reply, 0x14);
     }
     if !is_open(state) {
-        return commands_reply::rejected_for(reply, 0, 0x31);
+        return refuse_plain(reply, 0x31);
     }
     let caps = octets::part(book, from, size);
-    let walked = renewed_elements(caps, payload);
+    let walked = check(Rule::Reconfiguring, caps, payload, 1);
     match walked {
-        Walked::Fault { category, code } => commands_reply::rejected_for(reply, category, code),
+        Walked::Failed(fault) => refuse(reply, fault),
         Walked::Clean(marks) => {
             renew(caps, records, payload, index, e, marks);
             commands_reply::accepted()
@@ -79,11 +81,11 @@ pub fn reconfigure(book: &[u8], records: &mut [u8], payload: &[u8], reply: &mut 
       r (now (records .exit)) (now (reply .exit)) ⌝ }
 {
     if payload.len() < 3 {
-        return commands_reply::rejected_for(reply, 0, 0x11);
+        return refuse_plain(reply, 0x11);
     }
     let place = place(book, OurSeid(payload[0] / 4));
     match place {
-        Place::Unknown => commands_reply::rejected_for(reply, 0, 0x12),
+        Place::Unknown => refuse_plain(reply, 0x12),
         Place::Known {
             index,
             kind: _,

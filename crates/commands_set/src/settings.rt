@@ -1,13 +1,16 @@
 // Set Configuration.
 use crate::keeps::keep;
+use crate::refusals::refuse;
+use crate::refusals::refuse_plain;
 use book::places::place;
 use elements::marks::none;
-use elements_reader::set_elements;
+use elements::walks::check;
+use elements::walks::Walked;
 use rules::FarSeid;
 use rules::OurSeid;
 use rules::Place;
+use rules::Rule;
 use rules::Said;
-use rules::Walked;
 use saved::moves::settled;
 use saved::records::get;
 use saved_states::far_right;
@@ -30,15 +33,15 @@ fn set_at(book: &[u8], records: &mut [u8], payload: &[u8], reply: &mut [u8], ind
     let e = get(records, index);
     let state = e.state;
     if !is_idle(state) {
-        return commands_reply::rejected_for(reply, 0, 0x13);
+        return refuse_plain(reply, 0x13);
     }
     let far = FarSeid(payload[1] / 4);
     if !far_right(far) {
-        return commands_reply::rejected_for(reply, 0, 0x18);
+        return refuse_plain(reply, 0x18);
     }
-    let walked = set_elements(octets::part(book, from, size), payload);
+    let walked = check(Rule::Setting, octets::part(book, from, size), payload, 2);
     match walked {
-        Walked::Fault { category, code } => commands_reply::rejected_for(reply, category, code),
+        Walked::Failed(fault) => refuse(reply, fault),
         Walked::Clean(marks) => {
             // with no marks nothing is taken of the second list, which so may be any
             keep(records, index, settled(e, far, 0), payload, marks, payload, none());
@@ -53,11 +56,11 @@ pub fn set_configuration(book: &[u8], records: &mut [u8], payload: &[u8], reply:
       r (now (records .exit)) (now (reply .exit)) ⌝ }
 {
     if payload.len() < 2 {
-        return commands_reply::rejected_for(reply, 0, 0x11);
+        return refuse_plain(reply, 0x11);
     }
     let place = place(book, OurSeid(payload[0] / 4));
     match place {
-        Place::Unknown => commands_reply::rejected_for(reply, 0, 0x12),
+        Place::Unknown => refuse_plain(reply, 0x12),
         Place::Known {
             index,
             kind: _,

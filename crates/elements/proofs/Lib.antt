@@ -1,4 +1,3 @@
 pub mod Categories
-pub mod Standing
 pub mod Passing
 pub mod Judging

@@ -1,20 +1,25 @@
--- Marks: what is marked of a category once an element was passed; which categories marks show as seen; and that they tell which
--- categories a list has.
+-- Marks: what is marked of a category once an element was passed; which categories marks show as seen; that they tell which
+-- categories a list has; and the marks from a place on, by what stands there. The lists go by their octets, the rest by cases.
 use Prim.Native.Nat.{ℕ, zero, suc, _+_}
-use mathlib.Core.Path.{_≡_, refl, sym, ap, _∙_}
+use mathlib.Core.Path.{_≡_, refl, sym, ap, ap₂, _∙_}
 use mathlib.Core.List.{List, [], _∷_, _++_, append-nil}
 use mathlib.Core.Bool.{Bool, true, false, not, _&&_, _||_}
+use native.Mathlib.Nat.{add-zero}
 use native.Mathlib.Omega.{arith}
 use lib.ListN.{length, drop}
+use lib.Seq.{drop-drop, drop-nil}
 use lib.Dec.{leb, eqb}
 use borrow.Author.Tests.{eq-eqb, ne-eqb, eqb-true, eqb-false}
 use Rattle.rules.specs.Octets.{if_then_else_, member, some-of}
 use Rattle.rules.specs.Elements.{Category, categoryOf, transport, reporting, recovery, protection, compression, multiplexing}
 use Rattle.rules.specs.Elements.{codec, delaying, strange, isStrange, itemsPast, items, headed, isOf, has}
-use Rattle.rules.specs.Walks.{noMarks, markOf, marked, isWhole, marksPast, marksFrom, seenAs, seenIn}
-use Rattle.rules.specs.declared.Marks.{Marks}
 use Rattle.rules.proofs.Tests.{Told?, passed, failed, told, clash}
-use Rattle.elements.specs.Asks.{LastMarked}
+use Rattle.elements_reader.specs.Standing.{elementOf, elementAt}
+use Rattle.elements_reader.specs.declared.Element.{Element}
+use Rattle.elements_reader.specs.declared.Element.the-variants.{End, Short, Whole}
+use Rattle.elements_reader.proofs.Stands.{behind}
+use Rattle.elements.specs.Marks.{noMarks, markOf, marked, isWhole, marksPast, marksFrom, seenAs, seenIn, LastMarked}
+use Rattle.elements.specs.declared.marks.Marks.{Marks}
 use Rattle.elements.proofs.Categories.{NoneOf, numberOf, known-number, known-not-0}
 
 -- ---- An element passed
@@ -171,3 +176,34 @@ pub has-marked : (c : ℕ) → isStrange (categoryOf c) ≡ false → (l : List 
 unfolding marksFrom
 has-marked c e l at m new =
     sym (ap (λ b. has c (items (drop at l)) || b) new ∙ or-false (has c (items (drop at l)))) ∙ has-past c e (drop at l) 0 at m
+
+-- ---- The marks from a place on
+
+-- the marks by what stands there
+unfoldable pub marksBy : Element → List ℕ → Marks → Marks
+marksBy End l m = m
+marksBy (Short c) l m = m
+marksBy (Whole c n first) l m = marksFrom l (first + n) (marked c first m)
+
+marks-skip : (l : List ℕ) (k at : ℕ) (m : Marks) → marksPast l k at m ≡ marksPast (drop k l) 0 (at + k) m
+unfolding marksPast
+marks-skip [] k at m = rw (drop-nil {A = ℕ} k)
+marks-skip (x ∷ xs) zero at m = rw add-zero
+marks-skip (x ∷ xs) (suc k) at m = marks-skip xs k (suc at) m ∙ ap (λ (n : ℕ). marksPast (drop k xs) 0 n m) (omega arith)
+
+pub marks-by : (l : List ℕ) (at : ℕ) (m : Marks) → marksFrom l at m ≡ marksBy (elementAt l at) l m
+unfolding elementAt elementOf marksBy marksFrom marksPast isWhole
+marks-by l at m = go (drop at l) refl
+  where
+    go : (d : List ℕ) → drop at l ≡ d → marksPast d 0 at m ≡ marksBy (elementOf d at) l m
+    go [] e = refl
+    go (c ∷ []) e = refl
+    go (c ∷ n ∷ xs) e = fits (told (leb n (length xs)))
+      where
+        fits : Told? (leb n (length xs)) → marksPast (c ∷ n ∷ xs) 0 at m ≡ marksBy (elementOf (c ∷ n ∷ xs) at) l m
+        fits (passed t) =
+            rw t
+              (marks-skip xs n (suc (suc at)) (marked c (at + 2) m)
+               ∙ ap₂ (λ (d : List ℕ) (k : ℕ). marksPast d 0 k (marked c (at + 2) m))
+                   (ap (drop n) (behind l at e) ∙ drop-drop n (at + 2) l) (omega arith))
+        fits (failed t) = rw t

@@ -1,5 +1,6 @@
-// Lists of elements, of a book or of a command: what stands at a place, what is offered, and the one walk with its checks.
-pub mod heads;
+// Lists of elements, of a book or of a command: what is offered, where elements stand, the judges of an element by the rule of
+// its list, and the one walk.
 pub mod offers;
 pub mod marks;
+pub mod judges;
 pub mod walks;

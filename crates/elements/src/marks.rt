@@ -1,9 +1,20 @@
 // Where the elements of a list stand, by category, as a value that a walk carries along.
-use rules::Marks;
-
 ghost use mathlib.Core.Path.{_≡_};
 ghost use Rattle.rules.specs.Elements.{categoryOf};
-ghost use Rattle.rules.specs.Walks.{noMarks, markOf, marked};
+ghost use Rattle.elements.specs.Marks.{noMarks, markOf, marked};
+
+// Where in a list the value of the element of each category begins, 0 where there is none, and the category passed last.
+pub struct Marks {
+    pub last: u8,
+    pub transport: u16,
+    pub reporting: u16,
+    pub recovery: u16,
+    pub protection: u16,
+    pub compression: u16,
+    pub multiplexing: u16,
+    pub codec: u16,
+    pub delaying: u16,
+}
 
 // Where the element of a category stands, 0 where none was passed.
 pub fn mark(marks: Marks, category: u8) -> u16

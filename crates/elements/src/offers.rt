@@ -1,6 +1,6 @@
 // Whether an element is offered, and whether its length is right.
-use crate::heads::look;
-use rules::Head;
+use elements_reader::element_at;
+use elements_reader::Element;
 
 ghost use mathlib.Core.Path.{_≡_};
 ghost use lib.ListN.{drop};
@@ -65,11 +65,11 @@ pub fn value_within(category: u8, value: &[u8], offer: &[u8]) -> bool
 pub fn offers(caps: &[u8], at: usize, category: u8, value: &[u8]) -> bool
     ensures { λ r. ⌜ r ≡ offered (items (drop at (now (caps .entry)))) category (now (value .entry)) ⌝ }
 {
-    let head = look(caps, at);
-    match head {
-        Head::End => false,
-        Head::Short { category: _ } => false,
-        Head::Whole {
+    let element = element_at(caps, at);
+    match element {
+        Element::End => false,
+        Element::Short { category: _ } => false,
+        Element::Whole {
             category: c,
             length,
             first,

@@ -1,65 +1,57 @@
-// Reading a command's elements: a reader keeps the message and its place in it, from where on the elements are. A function over a
-// struct that holds a reference is proved by hand, so there are two, both thin: `read` takes a reader, and `elements` makes one.
-// The work is `read_at`'s, and who calls `set_elements` or `renewed_elements` sees slices only.
-use elements::marks::none;
-use elements::walks::setting;
-use elements::walks::walk;
-use rules::Rule;
-use rules::Walked;
-
+// Reading a list of elements, of a book, a command or a stored configuration: a reader keeps the list and its place in it, and
+// tells what stands there. Every walk over a list gets to its elements by `element_at`. A function over a struct that holds a
+// reference is proved by hand, so there are two, both thin: `look` takes a reader, and `element_at` makes one at a place that
+// the walk has moved on to. The work is `standing`'s.
 ghost use mathlib.Core.Path.{_≡_};
-ghost use Prim.Native.Nat.{_≤_};
-ghost use lib.ListN.{length};
-ghost use Rattle.rules.specs.Elements.{items};
-ghost use Rattle.rules.specs.Walks.{noMarks, walkOf, settingOf};
-ghost use Rattle.rules.specs.declared.Rule.the-variants.{Reconfiguring};
-ghost use Rattle.elements_reader.specs.Reads.{readFrom};
+ghost use Rattle.elements_reader.specs.Standing.{elementAt};
 
 pub struct Reader<'a> {
-    pub message: &'a [u8],
+    pub list: &'a [u8],
     pub at: usize,
 }
 
-// The elements from a place of the message on, as Reconfigure's or as Set Configuration's.
-fn read_at(reconfigures: bool, caps: &[u8], message: &[u8], at: usize) -> Walked
-    requires { ⌜ length (now message) ≤ 65535 ⌝ }
-    ensures { λ r. ⌜ r ≡ readFrom reconfigures (items (now (caps .entry))) (now (message .entry)) at ⌝ }
+// What stands at a place of a list: nothing more, an element that is cut short, or a whole one with the length of its value and
+// the place where the value begins.
+pub enum Element {
+    End,
+    Short { category: u8 },
+    Whole { category: u8, length: usize, first: usize },
+}
+
+// What stands at a place of a list.
+fn standing(list: &[u8], at: usize) -> Element
+    ensures { λ r. ⌜ r ≡ elementAt (now (list .entry)) at ⌝ }
 {
-    if reconfigures {
-        walk(Rule::Reconfiguring, caps, message, at, none())
+    if list.len() <= at {
+        return Element::End;
+    }
+    let category = list[at];
+    let left = list.len() - at;
+    if left < 2 {
+        return Element::Short { category };
+    }
+    let length = list[at + 1] as usize;
+    if length <= left - 2 {
+        Element::Whole {
+            category,
+            length,
+            first: at + 2,
+        }
     } else {
-        setting(caps, message, at)
+        Element::Short { category }
     }
 }
 
-// The elements from the reader's place on.
-pub fn read<'c, 'a>(reconfigures: bool, caps: &'c [u8], reader: Reader<'a>) -> Walked
-    requires { ⌜ length (now (reader .message)) ≤ 65535 ⌝ }
-    ensures { λ r. ⌜ r ≡ readFrom reconfigures (items (now (caps .entry))) (now (reader .entry .message)) (reader .entry .at) ⌝ }
+// What stands at the reader's place.
+pub fn look<'a>(reader: Reader<'a>) -> Element
+    ensures { λ r. ⌜ r ≡ elementAt (now (reader .entry .list)) (reader .entry .at) ⌝ }
 {
-    read_at(reconfigures, caps, reader.message, reader.at)
+    standing(reader.list, reader.at)
 }
 
-// A reader is made at the place, and read.
-fn elements<'c, 'a>(reconfigures: bool, caps: &'c [u8], message: &'a [u8], at: usize) -> Walked
-    requires { ⌜ length (now message) ≤ 65535 ⌝ }
-    ensures { λ r. ⌜ r ≡ readFrom reconfigures (items (now (caps .entry))) (now (message .entry)) at ⌝ }
+// A reader of the list is made at the place, and looks.
+pub fn element_at<'a>(list: &'a [u8], at: usize) -> Element
+    ensures { λ r. ⌜ r ≡ elementAt (now (list .entry)) at ⌝ }
 {
-    read(reconfigures, caps, Reader { message, at })
-}
-
-// Set Configuration's elements stand behind both SEIDs.
-pub fn set_elements(caps: &[u8], payload: &[u8]) -> Walked
-    requires { ⌜ length (now payload) ≤ 65535 ⌝ }
-    ensures { λ r. ⌜ r ≡ settingOf (items (now (caps .entry))) (now (payload .entry)) 2 ⌝ }
-{
-    elements(false, caps, payload, 2)
-}
-
-// Reconfigure's elements stand behind our SEID.
-pub fn renewed_elements(caps: &[u8], payload: &[u8]) -> Walked
-    requires { ⌜ length (now payload) ≤ 65535 ⌝ }
-    ensures { λ r. ⌜ r ≡ walkOf Reconfiguring (items (now (caps .entry))) (now (payload .entry)) 1 noMarks ⌝ }
-{
-    elements(true, caps, payload, 1)
+    look(Reader { list, at })
 }

@@ -12,14 +12,17 @@ use lib.Seq.{drop-drop, getD-drop}
 use lib.Dec.{leb, eqb}
 use borrow.Author.Tests.{leb-true, eqb-true, eqb-false, eq-eqb, ne-eqb}
 use Rattle.rules.specs.Octets.{if_then_else_, member, some-of, sameOctets}
-use Rattle.rules.specs.Elements.{Item, whole, short, headed, itemsPast, items, categoryOf, isStrange, fixed, isOf, has}
-use Rattle.rules.specs.Elements.{Asked, setting, reconfiguring, Fault, itemCategory, itemCode, faultOr, firstFault, faultIn}
-use Rattle.rules.specs.Elements.{settingFault, offerable, pick, picks, stored, restored, couldStore}
-use Rattle.rules.specs.Walks.{noMarks, marked, isWhole, marksPast, marksFrom, seenIn, judge, walkedAs, walkOf, settingOf}
-use Rattle.rules.specs.declared.Marks.{Marks}
-use Rattle.rules.specs.declared.Rule.the-variants.{Reconfiguring}
-use Rattle.rules.specs.declared.Walked.the-variants.{Fault as Failed, Clean}
+use Rattle.rules.specs.Elements.{Item, whole, short, headed, itemsPast, items, categoryOf, isStrange, fixed, itemCode, isOf, has}
+use Rattle.rules.specs.Elements.{itemCategory, blamed, faultPast, faultIn, offerable, pick, picks, stored, restored, couldStore}
+use Rattle.rules.specs.declared.Rule.{Rule}
+use Rattle.rules.specs.declared.Rule.the-variants.{Setting, Reconfiguring}
 use Rattle.rules.proofs.Tests.{Told?, passed, failed, told, clash, and-l, or-l, or-r}
+use Rattle.rules.proofs.Storable.{clean-head, clean-tail, Asks, setting-asks, reconfiguring-asks}
+use Rattle.elements.specs.Marks.{noMarks, marked, isWhole, marksPast, marksFrom}
+use Rattle.elements.specs.Walks.{checkOf}
+use Rattle.elements.specs.declared.marks.Marks.{Marks}
+use Rattle.elements.specs.declared.walks.Walked.the-variants.{Clean}
+use Rattle.elements.proofs.Judging.{told-marks, check-clean}
 use Rattle.elements_stored.specs.Stores.{markedPick, eitherPick, markedStore, PickFits, MarksFit}
 
 -- ---- No category comes twice
@@ -29,21 +32,11 @@ Once [] = Unit {0}
 Once (short d ∷ is) = Once is
 Once (whole d v ∷ is) = (has d is ≡ false) × Once is
 
-clean-head : (c n : ℕ) (f : Fault) → faultOr c n f .code ≡ 0 → n ≡ 0
-unfolding faultOr
-clean-head c zero f e = refl
-clean-head c (suc n) f e = e
-
-clean-tail : (c n : ℕ) (f : Fault) → faultOr c n f .code ≡ 0 → f .code ≡ 0
-unfolding faultOr
-clean-tail c zero f e = e
-clean-tail c (suc n) f e = absurd (suc-ne-zero n e)
-
 -- an element with no fault is the first of its category
-new-one : (asked : Asked) (caps : List Item) (seen : List ℕ) (c : ℕ) (v : List ℕ) → itemCode asked caps seen (whole c v) ≡ 0
+new-one : (rule : Rule) (caps : List Item) (seen : List ℕ) (c : ℕ) (v : List ℕ) → itemCode rule caps seen (whole c v) ≡ 0
   → member c seen ≡ false
 unfolding itemCode
-new-one asked caps seen c v = go (isStrange (categoryOf c)) (fixed asked (categoryOf c)) (member c seen) _
+new-one rule caps seen c v = go (isStrange (categoryOf c)) (fixed rule (categoryOf c)) (member c seen) _
   where
     go : (a b m : Bool) (n : ℕ) → (if a then 0x17 else if b then 0x1A else if m then 0x18 else n) ≡ 0 → m ≡ false
     go true b m n e = absurd (suc-ne-zero 0x16 e)
@@ -51,28 +44,29 @@ new-one asked caps seen c v = go (isStrange (categoryOf c)) (fixed asked (catego
     go false false true n e = absurd (suc-ne-zero 0x17 e)
     go false false false n e = refl
 
--- what was seen before comes no more
-seen-gone : (asked : Asked) (caps : List Item) (seen : List ℕ) (is : List Item) (c : ℕ) → faultIn asked caps seen is .code ≡ 0
-  → member c seen ≡ true → has c is ≡ false
-unfolding faultIn firstFault itemCategory member has some-of isOf
-seen-gone asked caps seen [] c e m = refl
-seen-gone asked caps seen (short d ∷ is) c e m =
-    seen-gone asked caps (d ∷ seen) is c (clean-tail d (itemCode asked caps seen (short d)) _ e)
-      (or-r (eqb c d) (member c seen) m)
-seen-gone asked caps seen (whole d v ∷ is) c e m =
-    let code = itemCode asked caps seen (whole d v) in
-    let other : eqb c d ≡ false = ne-eqb c d (λ p. clash m (rw p (new-one asked caps seen d v (clean-head d code _ e)))) in
-    rw other (seen-gone asked caps (d ∷ seen) is c (clean-tail d code _ e) (or-r (eqb c d) (member c seen) m))
+module _ (rule : Rule) (asks : Asks rule) (caps : List Item) where
+  -- what was seen before comes no more
+  seen-gone : (seen : List ℕ) (is : List Item) (c : ℕ) → faultPast rule caps seen is .code ≡ 0 → member c seen ≡ true
+    → has c is ≡ false
+  unfolding faultPast blamed itemCategory member has some-of isOf
+  seen-gone seen [] c e m = refl
+  seen-gone seen (short d ∷ is) c e m = seen-gone (d ∷ seen) is c (clean-tail _ _ e) (or-r (eqb c d) (member c seen) m)
+  seen-gone seen (whole d v ∷ is) c e m =
+      let new = new-one rule caps seen d v (sym (asks caps seen (whole d v)) ∙ clean-head _ _ e) in
+      let other : eqb c d ≡ false = ne-eqb c d (λ p. clash m (rw p new)) in
+      rw other (seen-gone (d ∷ seen) is c (clean-tail _ _ e) (or-r (eqb c d) (member c seen) m))
 
-clean-once : (asked : Asked) (caps : List Item) (seen : List ℕ) (is : List Item) → faultIn asked caps seen is .code ≡ 0 → Once is
-unfolding faultIn firstFault itemCategory member
-clean-once asked caps seen [] e = tt
-clean-once asked caps seen (short d ∷ is) e =
-    clean-once asked caps (d ∷ seen) is (clean-tail d (itemCode asked caps seen (short d)) _ e)
-clean-once asked caps seen (whole d v ∷ is) e =
-    let rest = clean-tail d (itemCode asked caps seen (whole d v)) _ e in
-    ( seen-gone asked caps (d ∷ seen) is d rest (or-l (eqb d d) (member d seen) (eq-eqb d d refl)),
-      clean-once asked caps (d ∷ seen) is rest)
+  clean-once : (seen : List ℕ) (is : List Item) → faultPast rule caps seen is .code ≡ 0 → Once is
+  unfolding faultPast itemCategory member
+  clean-once seen [] e = tt
+  clean-once seen (short d ∷ is) e = clean-once (d ∷ seen) is (clean-tail _ _ e)
+  clean-once seen (whole d v ∷ is) e =
+      let rest = clean-tail _ _ e in
+      (seen-gone (d ∷ seen) is d rest (or-l (eqb d d) (member d seen) (eq-eqb d d refl)), clean-once (d ∷ seen) is rest)
+
+  list-once : (is : List Item) → faultIn rule caps is .code ≡ 0 → Once is
+  unfolding faultIn
+  list-once is e = clean-once [] is e
 
 -- ---- A place of a list
 
@@ -307,62 +301,38 @@ store-picked new at old k js once e₁ e₂ e₄ e₇ e₈ =
             (either-picked 8 _ delaying-mark new at old (k .delaying) js once e₈ ∙ sym (append-nil (pick 8 is))))))
 
 -- nothing is kept of the old list
-pub store-new : (asked : Asked) (caps : List Item) (seen new : List ℕ) (at : ℕ) (old : List ℕ)
-  → faultIn asked caps seen (items (drop at new)) .code ≡ 0
+store-new : (rule : Rule) → Asks rule → (caps : List Item) (new : List ℕ) (at : ℕ) (old : List ℕ)
+  → faultIn rule caps (items (drop at new)) .code ≡ 0
   → markedStore new (marksFrom new at noMarks) old noMarks ≡ stored (items (drop at new))
 unfolding noMarks pick
-store-new asked caps seen new at old clean =
-    let once = clean-once asked caps seen (items (drop at new)) clean in
+store-new rule asks caps new at old clean =
+    let once = list-once rule asks caps (items (drop at new)) clean in
     let none : (c : ℕ) → markedPick c old 0 ≡ [] = λ c. none-picked c old in
     store-picked new at old noMarks [] once (none 1) (none 2) (none 4) (none 7) (none 8)
     ∙ ap stored (append-nil (items (drop at new)))
 
 -- what the new list lacks is kept of the old one, which has no fault either
-pub store-again : (asked : Asked) (caps : List Item) (seen new : List ℕ) (at : ℕ)
-    (asked′ : Asked) (caps′ : List Item) (seen′ old : List ℕ)
-  → faultIn asked caps seen (items (drop at new)) .code ≡ 0 → faultIn asked′ caps′ seen′ (items old) .code ≡ 0
+store-again : (rule : Rule) → Asks rule → (caps : List Item) (new : List ℕ) (at : ℕ)
+  → (rule′ : Rule) → Asks rule′ → (caps′ : List Item) (old : List ℕ)
+  → faultIn rule caps (items (drop at new)) .code ≡ 0 → faultIn rule′ caps′ (items old) .code ≡ 0
   → markedStore new (marksFrom new at noMarks) old (marksFrom old 0 noMarks) ≡ restored (items (drop at new)) (items old)
 unfolding restored
-store-again asked caps seen new at asked′ caps′ seen′ old clean clean′ =
-    let once = clean-once asked′ caps′ seen′ (items old) clean′ in
-    store-picked new at old (marksFrom old 0 noMarks) (items old) (clean-once asked caps seen (items (drop at new)) clean)
+store-again rule asks caps new at rule′ asks′ caps′ old clean clean′ =
+    let once = list-once rule′ asks′ caps′ (items old) clean′ in
+    store-picked new at old (marksFrom old 0 noMarks) (items old) (list-once rule asks caps (items (drop at new)) clean)
       (marked-picked 1 _ transport-mark old 0 once) (marked-picked 2 _ reporting-mark old 0 once)
       (marked-picked 4 _ protection-mark old 0 once) (marked-picked 7 _ codec-mark old 0 once)
       (marked-picked 8 _ delaying-mark old 0 once)
 
 -- ---- By the checks that the commands make
 
-pub setting-clean : (caps is : List Item) → settingFault caps is .code ≡ 0 → faultIn setting caps [] is .code ≡ 0
-unfolding settingFault
-setting-clean caps is e = go (told (eqb (faultIn setting caps [] is .code) 0))
-  where
-    go : Told? (eqb (faultIn setting caps [] is .code) 0) → faultIn setting caps [] is .code ≡ 0
-    go (passed z) = eqb-true (faultIn setting caps [] is .code) 0 z
-    go (failed z) = rw z at e
-
-could-fault : (caps : List Item) (l : List ℕ) → couldStore caps l ≡ true → eqb (settingFault caps (items l) .code) 0 ≡ true
-unfolding couldStore
-could-fault caps l e = and-l (eqb (settingFault caps (items l) .code) 0) (sameOctets (stored (items l)) l) e
-
-pub could-clean : (caps : List Item) (l : List ℕ) → couldStore caps l ≡ true → faultIn setting caps [] (items l) .code ≡ 0
-could-clean caps l e = setting-clean caps (items l) (eqb-true _ 0 (could-fault caps l e))
-
 -- the check of a stored configuration gives its marks
-pub could-setting : (caps : List Item) (l : List ℕ) → couldStore caps l ≡ true
-  → settingOf caps l 0 ≡ Clean (marksFrom l 0 noMarks)
-unfolding settingOf walkedAs
-could-setting caps l e = rw (could-fault caps l e)
-
-pub walked-clean : (f : Fault) (m : Marks) {k : Marks} → walkedAs f m ≡ Clean k → (f .code ≡ 0) × (m ≡ k)
-unfolding walkedAs
-walked-clean f m {k} e = go (told (eqb (f .code) 0))
-  where
-    go : Told? (eqb (f .code) 0) → (f .code ≡ 0) × (m ≡ k)
-    go (passed z) = let p : Clean m ≡ Clean k = rw z at e in (eqb-true (f .code) 0 z, cc)
-    go (failed z) =
-        let p : Failed (f .category) (f .code) ≡ Clean k = rw z at e in
-        let q : _≡_ {A = ℕ} 0 1 = cc in
-        absurd (omega arith)
+pub could-checked : (caps : List Item) (l : List ℕ) → couldStore caps l ≡ true
+  → checkOf Setting caps l 0 ≡ Clean (marksFrom l 0 noMarks)
+unfolding checkOf couldStore
+could-checked caps l e =
+    sym (told-marks (faultIn Setting caps (items l)) (marksFrom l 0 noMarks)
+      (eqb-true _ 0 (and-l (eqb (faultIn Setting caps (items l) .code) 0) (sameOctets (stored (items l)) l) e)))
 
 -- what the code stores from, and that it stores a configuration
 pub record Stores (new : List ℕ) (m : Marks) (old : List ℕ) (k : Marks) (config : List ℕ) : Type 0 where
@@ -371,31 +341,27 @@ pub record Stores (new : List ℕ) (m : Marks) (old : List ℕ) (k : Marks) (con
   pub same : markedStore new m old k ≡ config
 
 -- Set Configuration with no fault
-pub set-stores : (caps : List Item) (new : List ℕ) (at : ℕ) (old : List ℕ) {m : Marks} → settingOf caps new at ≡ Clean m
+pub set-stores : (caps : List Item) (new : List ℕ) (at : ℕ) (old : List ℕ) {m : Marks} → checkOf Setting caps new at ≡ Clean m
   → Stores new m old noMarks (stored (items (drop at new)))
-unfolding settingOf
-set-stores caps new at old e =
-    let (clean, same) = walked-clean (settingFault caps (items (drop at new))) (marksFrom new at noMarks) e in
-    subst (λ (m : Marks). Stores new m old noMarks (stored (items (drop at new)))) same
+set-stores caps new at old {m} e =
+    let (clean, same) = check-clean Setting caps new at m (sym e) in
+    subst (λ (m : Marks). Stores new m old noMarks (stored (items (drop at new)))) (sym same)
       (record {
         fresh = marks-fit new at;
         left = none-fit old;
-        same = store-new setting caps [] new at old (setting-clean caps (items (drop at new)) clean)
+        same = store-new Setting setting-asks caps new at old clean
       })
 
 -- Reconfigure with no fault, and the check of what is stored
 pub again-stores : (caps : List Item) (new : List ℕ) (at : ℕ) (old : List ℕ) {m k : Marks}
-  → walkOf Reconfiguring caps new at noMarks ≡ Clean m → settingOf caps old 0 ≡ Clean k
+  → checkOf Reconfiguring caps new at ≡ Clean m → checkOf Setting caps old 0 ≡ Clean k
   → Stores new m old k (restored (items (drop at new)) (items old))
-unfolding walkOf judge faultIn settingOf
-again-stores caps new at old e f =
-    let seen = seenIn noMarks in
-    let fault = firstFault (judge Reconfiguring caps) seen (items (drop at new)) in
-    let (clean, same) = walked-clean fault (marksFrom new at noMarks) e in
-    let (clean′, same′) = walked-clean (settingFault caps (items old)) (marksFrom old 0 noMarks) f in
-    subst₂ (λ (m k : Marks). Stores new m old k (restored (items (drop at new)) (items old))) same same′
+again-stores caps new at old {m} {k} e f =
+    let (clean, same) = check-clean Reconfiguring caps new at m (sym e) in
+    let (clean′, same′) = check-clean Setting caps old 0 k (sym f) in
+    subst₂ (λ (m k : Marks). Stores new m old k (restored (items (drop at new)) (items old))) (sym same) (sym same′)
       (record {
         fresh = marks-fit new at;
         left = marks-fit old 0;
-        same = store-again reconfiguring caps seen new at setting caps [] old clean (setting-clean caps (items old) clean′)
+        same = store-again Reconfiguring reconfiguring-asks caps new at Setting setting-asks caps old clean clean′
       })

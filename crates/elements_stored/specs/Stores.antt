@@ -5,7 +5,7 @@ use lib.ListN.{length, take, drop, getD}
 use lib.Dec.{eqb}
 use Rattle.rules.specs.Octets.{if_then_else_}
 use Rattle.rules.specs.Elements.{element, kept}
-use Rattle.rules.specs.declared.Marks.{Marks}
+use Rattle.elements.specs.declared.marks.Marks.{Marks}
 
 -- of a value that begins at a place of a list: its length, by the octet before it, and its octets
 abbrev pub sizeAt : List ℕ → ℕ → ℕ

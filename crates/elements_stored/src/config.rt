@@ -1,6 +1,6 @@
 // Storing a configuration: the elements of a command and, where it has none of a category, the one stored before; categories
 // ascending.
-use rules::Marks;
+use elements::marks::Marks;
 
 ghost use mathlib.Core.Path.{_≡_};
 ghost use Prim.Native.Nat.{_+_, _≤_};

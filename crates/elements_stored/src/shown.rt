@@ -1,6 +1,6 @@
 // What is shown of a list.
-use elements::heads::look;
-use rules::Head;
+use elements_reader::element_at;
+use elements_reader::Element;
 
 ghost use mathlib.Core.Path.{_≡_};
 ghost use Prim.Native.Nat.{_+_, _≤_};
@@ -16,11 +16,11 @@ pub fn show(area: &mut [u8], to: usize, list: &[u8], at: usize) -> usize
       ≡ patch to (written (upToCodec (items (drop at (now (list .entry)))))) (now (area .entry)) ⌝ }
     ensures end { λ r. ⌜ r ≡ to + length (written (upToCodec (items (drop at (now (list .entry)))))) ⌝ }
 {
-    let head = look(list, at);
-    match head {
-        Head::End => to,
-        Head::Short { category: _ } => to,
-        Head::Whole {
+    let element = element_at(list, at);
+    match element {
+        Element::End => to,
+        Element::Short { category: _ } => to,
+        Element::Whole {
             category,
             length,
             first,

@@ -13,8 +13,7 @@ use Rattle.rules.proofs.Lists.{items-shown}
 use Rattle.rules.specs.Octets.{if_then_else_, some-of, each-of}
 use Rattle.rules.specs.Elements.{Item, whole, short, items, categoryOf, strange, transport, reporting, recovery}
 use Rattle.rules.specs.Elements.{protection, compression, multiplexing, codec, delaying, offersIn, offered}
-use Rattle.rules.specs.Elements.{Asked, setting, reconfiguring, fixed, isStrange, Fault, itemCategory, itemCode}
-use Rattle.rules.specs.Elements.{firstFault, faultOr, faultIn, isOf, has, missing, settingFault}
+use Rattle.rules.specs.Elements.{fixed, isStrange, itemCode, judge, itemCategory, blamed, faultOr, faultPast, faultIn, isOf, has}
 use Rattle.rules.specs.Book.{Entry, Book, Found, unknown, known, later, find, upToCodec, shownBy02}
 use Rattle.rules.specs.Packets.{Message}
 use Rattle.rules.specs.Endpoints.{Endpoint, Ends, Connection, idle, freshEnds, freshConnection, endAt, inState}
@@ -27,6 +26,8 @@ use Rattle.rules.specs.Commands.{SetConfiguration, GetConfiguration, Rec
 use Rattle.rules.specs.Commands.{SecurityControl, GetAllCapabilities, DelayReport, Unassigned, signalOf, obey, answer}
 use Rattle.rules.specs.Alike.{alikeEntry, alike, usesDelay}
 use Rattle.rules.specs.declared.OurSeid.{OurSeid}
+use Rattle.rules.specs.declared.Rule.{Rule}
+use Rattle.rules.specs.declared.Rule.the-variants.{Offer, Setting, Reconfiguring}
 use Rattle.rules.specs.declared.State.{State}
 use Rattle.rules.specs.declared.State.the-variants.{Open, Streaming}
 use Rattle.rules.specs.declared.Event.{Event}
@@ -86,8 +87,8 @@ alike-offered n n′ e c v low =
     ∙ offered-up-to-codec (items (n′ .caps)) c v low
 
 -- Category 8 is not looked up for this item: the command has it fixed, or the item is of another category.
-passes8 : Asked → Item → Bool
-passes8 asked i = fixed asked delaying || not (isOf 8 i)
+passes8 : Rule → Item → Bool
+passes8 rule i = fixed rule delaying || not (isOf 8 i)
 
 pub above-is-strange : (c : ℕ) → 8 < c → categoryOf c ≡ strange
 unfolding categoryOf
@@ -96,68 +97,69 @@ above-is-strange c high =
       (strange ∷ transport ∷ reporting ∷ recovery ∷ protection ∷ compression ∷ multiplexing ∷ codec ∷ delaying ∷ [])
       strange high
 
-code-of-8 : (asked : Asked) (caps caps′ : List Item) (seen v : List ℕ) → passes8 asked (whole 8 v) ≡ true
-    → itemCode asked caps seen (whole 8 v) ≡ itemCode asked caps′ seen (whole 8 v)
+code-of-8 : (rule : Rule) (caps caps′ : List Item) (seen v : List ℕ) → passes8 rule (whole 8 v) ≡ true
+    → itemCode rule caps seen (whole 8 v) ≡ itemCode rule caps′ seen (whole 8 v)
 unfolding itemCode isStrange fixed categoryOf passes8 isOf
-code-of-8 setting caps caps′ seen v passes = clash refl (sym passes)
-code-of-8 reconfiguring caps caps′ seen v passes = refl
+code-of-8 (Offer media) caps caps′ seen v passes = clash refl (sym passes)
+code-of-8 Setting caps caps′ seen v passes = clash refl (sym passes)
+code-of-8 Reconfiguring caps caps′ seen v passes = refl
 
 -- category 8 and above: nothing is looked up
-high-code-alike : (asked : Asked) (caps caps′ : List Item) (seen : List ℕ) (c : ℕ) (v : List ℕ) → leb c 7 ≡ false
-    → passes8 asked (whole c v) ≡ true → Told? (eqb c 8)
-    → itemCode asked caps seen (whole c v) ≡ itemCode asked caps′ seen (whole c v)
+high-code-alike : (rule : Rule) (caps caps′ : List Item) (seen : List ℕ) (c : ℕ) (v : List ℕ) → leb c 7 ≡ false
+    → passes8 rule (whole c v) ≡ true → Told? (eqb c 8)
+    → itemCode rule caps seen (whole c v) ≡ itemCode rule caps′ seen (whole c v)
 unfolding itemCode isStrange
-high-code-alike asked caps caps′ seen c v high passes (passed is8) =
-    let eight = eqb-true c 8 is8 in rw eight (code-of-8 asked caps caps′ seen v (rw eight at passes))
-high-code-alike asked caps caps′ seen c v high passes (failed other) =
+high-code-alike rule caps caps′ seen c v high passes (passed is8) =
+    let eight = eqb-true c 8 is8 in rw eight (code-of-8 rule caps caps′ seen v (rw eight at passes))
+high-code-alike rule caps caps′ seen c v high passes (failed other) =
     rw (above-is-strange c (omega (arith, leb-false c 7 high, eqb-false c 8 other)), isStrange)
 
-code-alike : (asked : Asked) (caps caps′ : List Item) (seen : List ℕ) (i : Item) → OfferAlike caps caps′
-    → passes8 asked i ≡ true → itemCode asked caps seen i ≡ itemCode asked caps′ seen i
+code-alike : (rule : Rule) (caps caps′ : List Item) (seen : List ℕ) (i : Item) → OfferAlike caps caps′
+    → passes8 rule i ≡ true → itemCode rule caps seen i ≡ itemCode rule caps′ seen i
 unfolding itemCode
-code-alike asked caps caps′ seen (short c) same passes = refl
-code-alike asked caps caps′ seen (whole c v) same passes = go (told (leb c 7))
+code-alike rule caps caps′ seen (short c) same passes = refl
+code-alike rule caps caps′ seen (whole c v) same passes = go (told (leb c 7))
   where
-    go : Told? (leb c 7) → itemCode asked caps seen (whole c v) ≡ itemCode asked caps′ seen (whole c v)
+    go : Told? (leb c 7) → itemCode rule caps seen (whole c v) ≡ itemCode rule caps′ seen (whole c v)
     go (passed low) = rw (same c v low)
-    go (failed high) = high-code-alike asked caps caps′ seen c v high passes (told (eqb c 8))
+    go (failed high) = high-code-alike rule caps caps′ seen c v high passes (told (eqb c 8))
 
-fault-alike : (asked : Asked) (caps caps′ : List Item) (seen : List ℕ) (is : List Item) → OfferAlike caps caps′
-    → each-of (passes8 asked) is ≡ true → faultIn asked caps seen is ≡ faultIn asked caps′ seen is
-unfolding faultIn firstFault each-of
-fault-alike asked caps caps′ seen [] same passes = refl
-fault-alike asked caps caps′ seen (i ∷ is) same passes =
-    ap₂ (faultOr (itemCategory i))
-      (code-alike asked caps caps′ seen i same (and-l (passes8 asked i) (each-of (passes8 asked) is) passes))
-      (fault-alike asked caps caps′ (itemCategory i ∷ seen) is same
-         (and-r (passes8 asked i) (each-of (passes8 asked) is) passes))
+judge-alike : (rule : Rule) (caps caps′ : List Item) (seen : List ℕ) (i : Item) → OfferAlike caps caps′
+    → passes8 rule i ≡ true → judge rule caps seen i ≡ judge rule caps′ seen i
+unfolding judge
+judge-alike (Offer media) caps caps′ seen i same passes = refl
+judge-alike Setting caps caps′ seen i same passes = code-alike Setting caps caps′ seen i same passes
+judge-alike Reconfiguring caps caps′ seen i same passes = code-alike Reconfiguring caps caps′ seen i same passes
 
-reconfiguring-passes8 : (is : List Item) → each-of (passes8 reconfiguring) is ≡ true
+past-alike : (rule : Rule) (caps caps′ : List Item) (seen : List ℕ) (is : List Item) → OfferAlike caps caps′
+    → each-of (passes8 rule) is ≡ true → faultPast rule caps seen is ≡ faultPast rule caps′ seen is
+unfolding faultPast each-of
+past-alike rule caps caps′ seen [] same passes = refl
+past-alike rule caps caps′ seen (i ∷ is) same passes =
+    ap₂ (λ n f. faultOr (blamed i n) f)
+      (judge-alike rule caps caps′ seen i same (and-l (passes8 rule i) (each-of (passes8 rule) is) passes))
+      (past-alike rule caps caps′ (itemCategory i ∷ seen) is same
+         (and-r (passes8 rule i) (each-of (passes8 rule) is) passes))
+
+fault-alike : (rule : Rule) (n n′ : Entry) → alikeEntry n n′ ≡ true → (is : List Item) → each-of (passes8 rule) is ≡ true
+    → faultIn rule (items (n .caps)) is ≡ faultIn rule (items (n′ .caps)) is
+unfolding faultIn
+fault-alike rule n n′ e is passes = past-alike rule (items (n .caps)) (items (n′ .caps)) [] is (alike-offered n n′ e) passes
+
+reconfiguring-passes8 : (is : List Item) → each-of (passes8 Reconfiguring) is ≡ true
 unfolding each-of passes8 fixed
 reconfiguring-passes8 [] = refl
 reconfiguring-passes8 (i ∷ is) = reconfiguring-passes8 is
 
-setting-passes8 : (is : List Item) → has 8 is ≡ false → each-of (passes8 setting) is ≡ true
+setting-passes8 : (is : List Item) → has 8 is ≡ false → each-of (passes8 Setting) is ≡ true
 unfolding each-of passes8 fixed has some-of
 setting-passes8 [] unasked = refl
 setting-passes8 (i ∷ is) unasked = go (isOf 8 i) (setting-passes8 is) unasked
   where
-    go : (t : Bool) → (has 8 is ≡ false → each-of (passes8 setting) is ≡ true) → t || has 8 is ≡ false
-        → not t && each-of (passes8 setting) is ≡ true
+    go : (t : Bool) → (has 8 is ≡ false → each-of (passes8 Setting) is ≡ true) → t || has 8 is ≡ false
+        → not t && each-of (passes8 Setting) is ≡ true
     go true rest none-asked = clash refl none-asked
     go false rest none-asked = rest none-asked
-
-alike-settings : (n n′ : Entry) → alikeEntry n n′ ≡ true → (is : List Item) → has 8 is ≡ false
-    → settingFault (items (n .caps)) is ≡ settingFault (items (n′ .caps)) is
-unfolding settingFault
-alike-settings n n′ e is unasked =
-    ap (λ (f : Fault). if eqb (f .code) 0 then missing is else f)
-      (fault-alike setting (items (n .caps)) (items (n′ .caps)) [] is (alike-offered n n′ e) (setting-passes8 is unasked))
-
-alike-reconfigures : (n n′ : Entry) → alikeEntry n n′ ≡ true → (is : List Item)
-    → faultIn reconfiguring (items (n .caps)) [] is ≡ faultIn reconfiguring (items (n′ .caps)) [] is
-alike-reconfigures n n′ e is =
-    fault-alike reconfiguring (items (n .caps)) (items (n′ .caps)) [] is (alike-offered n n′ e) (reconfiguring-passes8 is)
 
 -- ---- Books alike, entry by entry
 
@@ -235,12 +237,12 @@ discovered-alike (x ∷ ends) (entries {n} {n′} e rest) = rw (alike-seid n n�
 set-at-alike : (ends : Ends) (p : List ℕ) (i : ℕ) (n n′ : Entry) → has 8 (items (drop 2 p)) ≡ false → alikeEntry n n′ ≡ true
     → setAt ends p i n ≡ setAt ends p i n′
 unfolding setAt
-set-at-alike ends p i n n′ unasked e = rw (alike-settings n n′ e (items (drop 2 p)) unasked)
+set-at-alike ends p i n n′ unasked e = rw (fault-alike Setting n n′ e (items (drop 2 p)) (setting-passes8 (items (drop 2 p)) unasked))
 
 reconfigure-at-alike : (ends : Ends) (p : List ℕ) (i : ℕ) (n n′ : Entry) → alikeEntry n n′ ≡ true
     → reconfigureAt ends p i n ≡ reconfigureAt ends p i n′
 unfolding reconfigureAt
-reconfigure-at-alike ends p i n n′ e = rw (alike-reconfigures n n′ e (items (drop 1 p)))
+reconfigure-at-alike ends p i n n′ e = rw (fault-alike Reconfiguring n n′ e (items (drop 1 p)) (reconfiguring-passes8 (items (drop 1 p))))
 
 module _ {book book′ : Book} (same : AlikeBooks book book′) where
   turn-each-same : (may : Endpoint → Bool) (to : State) (ends : Ends) (os : List ℕ)

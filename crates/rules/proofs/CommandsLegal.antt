@@ -7,19 +7,20 @@ use mathlib.Core.Bool.{Bool, true, false, not, _&&_, _||_}
 use lib.ListN.{length, drop, getD, set}
 use lib.Dec.{leb, eqb}
 use borrow.Author.Tests.{leb-true, eqb-true, le-leb, not-false}
-use Rattle.rules.specs.Elements.{items, reconfiguring, faultIn, settingFault, stored, restored}
+use Rattle.rules.specs.Elements.{items, faultIn, stored, restored}
 use Rattle.rules.specs.Book.{Entry, Book, shownBy02, shownBy0C}
 use Rattle.rules.specs.Packets.{Message}
 use Rattle.rules.specs.Endpoints.{Endpoint, Ends, isIdle, isUp, isAwaited, legalEnd, legalEnds, awaiting, takesDelay}
 use Rattle.rules.specs.Endpoints.{farRight, inState, withChannel, withDelay, withConfig, leaving, endAt, channelRight}
 use Rattle.rules.specs.Saved.{pairIn}
-use Rattle.rules.specs.Commands.{Reply, Outcome, stays, moves, rejectBare, rejectElement, silence, farIn, isConfigured}
+use Rattle.rules.specs.Commands.{Reply, Outcome, stays, moves, rejectBare, rejectPlain, silence, farIn, isConfigured}
 use Rattle.rules.specs.Commands.{isOpen, isStreaming, isSet, discover, capabilities, settled, setAt, setConfiguration}
 use Rattle.rules.specs.Commands.{getConfiguration, reconfigureAt, reconfigure, openUp, mayStart, maySuspend, turnOne}
 use Rattle.rules.specs.Commands.{turnEach, turn, close, abort, securityControl, delayReport, Signal, Discover}
 use Rattle.rules.specs.Commands.{GetCapabilities, SetConfiguration, GetConfiguration, Reconfigure, OpenUp, Start, Close}
 use Rattle.rules.specs.Commands.{Suspend, Abort, SecurityControl, GetAllCapabilities, DelayReport, Unassigned, signalOf}
 use Rattle.rules.specs.Commands.{obey, answer}
+use Rattle.rules.specs.declared.Rule.the-variants.{Setting, Reconfiguring}
 use Rattle.rules.specs.declared.State.{State}
 use Rattle.rules.specs.declared.State.the-variants.{Open, Streaming, Closing, Aborting}
 use Rattle.rules.specs.declared.Channel.the-variants.{Awaited, Up}
@@ -66,7 +67,7 @@ module _ (book : Book) (ends : Ends) (h : LegalEnds book ends) where
       let e = endAt ends i in
       let far = farIn (getD p 1 0) in
       let asked = items (drop 2 p) in
-      let fault = settingFault (items (n .caps)) asked in
+      let fault = faultIn Setting (items (n .caps)) asked in
       let right-code = eqb (fault .code) 0 in
       if-arms (Leaves book) (not (isIdle (e .state))) _ _ (λ t. same-legal _) λ f.
       if-arms (Leaves book) (not (farRight far)) _ _ (λ t. same-legal _) λ right-far.
@@ -79,7 +80,7 @@ module _ (book : Book) (ends : Ends) (h : LegalEnds book ends) where
   set-configuration-legal : (p : List ℕ) → Leaves book (setConfiguration book ends p)
   unfolding setConfiguration
   set-configuration-legal p =
-      endpoint-arms (Leaves book) (rejectElement 0) (leb 2 (length p)) book ends p (setAt ends p) (λ c. same-legal _)
+      endpoint-arms (Leaves book) rejectPlain (leb 2 (length p)) book ends p (setAt ends p) (λ c. same-legal _)
         (set-at-legal p)
 
   reconfigure-at-legal : (p : List ℕ) (i : ℕ) (n : Entry) → At book i n → Leaves book (reconfigureAt ends p i n)
@@ -89,7 +90,7 @@ module _ (book : Book) (ends : Ends) (h : LegalEnds book ends) where
       let t = legal-at a ends (h .every) in
       let caps = items (n .caps) in
       let asked = items (drop 1 p) in
-      let fault = faultIn reconfiguring caps [] asked in
+      let fault = faultIn Reconfiguring caps asked in
       let right-code = eqb (fault .code) 0 in
       if-arms (Leaves book) (isIdle (e .state)) _ _ (λ i. same-legal _) λ busy.
       if-arms (Leaves book) (not (isOpen (e .state))) _ _ (λ o. same-legal _) λ o.
@@ -104,7 +105,7 @@ module _ (book : Book) (ends : Ends) (h : LegalEnds book ends) where
   reconfigure-legal : (p : List ℕ) → Leaves book (reconfigure book ends p)
   unfolding reconfigure
   reconfigure-legal p =
-      endpoint-arms (Leaves book) (rejectElement 0) (leb 3 (length p)) book ends p (reconfigureAt ends p) (λ c. same-legal _)
+      endpoint-arms (Leaves book) rejectPlain (leb 3 (length p)) book ends p (reconfigureAt ends p) (λ c. same-legal _)
         (reconfigure-at-legal p)
 
   -- the one command after which an endpoint may await a channel that did not: none did before

@@ -9,7 +9,7 @@ use lib.Seq.{getD-set-same, getD-set-other, lt-length-set}
 use lib.Dec.{eqb, eqb·suc-zero}
 use borrow.Author.Tests.{eqb-true, eqb-false}
 use Rattle.rules.specs.Octets.{if_then_else_, some-of}
-use Rattle.rules.specs.Elements.{items, settingFault, faultIn, reconfiguring}
+use Rattle.rules.specs.Elements.{items, faultIn}
 use Rattle.rules.specs.Book.{Entry, Book, Found, unknown, known, find, shownBy02, shownBy0C}
 use Rattle.rules.specs.Packets.{Message}
 use Rattle.rules.specs.Endpoints.{Endpoint, Ends, endAt, inState, idle, isIdle, farRight, awaiting, takesDelay}
@@ -20,6 +20,7 @@ use Rattle.rules.specs.Commands.{abort, securityControl, delayReport, fa
 use Rattle.rules.specs.Commands.{mayStart, maySuspend}
 use Rattle.rules.specs.Moves.{movedOne, movedAll, mayOne, mayAll, failCode, standsAt, lists, movedIf, Stopped, turns}
 use Rattle.rules.specs.Moves.{isAccept}
+use Rattle.rules.specs.declared.Rule.the-variants.{Setting, Reconfiguring}
 use Rattle.rules.specs.declared.State.{State}
 use Rattle.rules.specs.declared.State.the-variants.{Open, Streaming}
 use Rattle.rules.proofs.Tests.{told, Told?, passed, failed, clash, and-l, and-r, and-both}
@@ -189,7 +190,7 @@ module _ (book : Book) (ends : Ends) (p : List ℕ) where
   unfolding setAt
   of-set-at i n =
       three-tests ends i (not (isIdle (endAt ends i .state))) (not (farRight (farIn (getD p 1 0))))
-      (not (eqb (settingFault (items (n .caps)) (items (drop 2 p)) .code) 0)) _ _ _ _
+      (not (eqb (faultIn Setting (items (n .caps)) (items (drop 2 p)) .code) 0)) _ _ _ _
 
   of-set : Unmoved ends (setConfiguration book ends p)
   unfolding setConfiguration
@@ -203,7 +204,7 @@ module _ (book : Book) (ends : Ends) (p : List ℕ) where
   unfolding reconfigureAt
   of-reconfigure-at i n =
       three-tests ends i (isIdle (endAt ends i .state)) (not (isOpen (endAt ends i .state)))
-      (not (eqb (faultIn reconfiguring (items (n .caps)) [] (items (drop 1 p)) .code) 0)) _ _ _ _
+      (not (eqb (faultIn Reconfiguring (items (n .caps)) (items (drop 1 p)) .code) 0)) _ _ _ _
 
   of-reconfigure : Unmoved ends (reconfigure book ends p)
   unfolding reconfigure

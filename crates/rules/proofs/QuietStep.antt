@@ -12,7 +12,7 @@ use Rattle.rules.proofs.Storable.{stored-has, restored-has-8}
 use Rattle.rules.proofs.Outcomes.{if-arms, found-arms, endpoint-arms}
 use Rattle.rules.proofs.AlikeStep.{forgoes, message-forgoes}
 use Rattle.rules.specs.Octets.{member, some-of, each-of}
-use Rattle.rules.specs.Elements.{Item, items, itemsPast, reconfiguring, faultIn, settingFault, has, offerable}
+use Rattle.rules.specs.Elements.{Item, items, itemsPast, faultIn, has, offerable}
 use Rattle.rules.specs.Elements.{stored, restored}
 use Rattle.rules.specs.Book.{Entry, Book, Found, unknown, known, find}
 use Rattle.rules.specs.Packets.{Message}
@@ -28,6 +28,7 @@ use Rattle.rules.specs.Commands.{Start, Close, Suspend, Abort, SecurityC
 use Rattle.rules.specs.Commands.{signalOf, obey, answer}
 use Rattle.rules.specs.Alike.{usesDelay, noneReported}
 use Rattle.rules.specs.declared.OurSeid.{OurSeid}
+use Rattle.rules.specs.declared.Rule.the-variants.{Setting, Reconfiguring}
 use Rattle.rules.specs.declared.FarSeid.{FarSeid}
 use Rattle.rules.specs.declared.State.{State}
 use Rattle.rules.specs.declared.State.the-variants.{Open, Streaming, Closing, Aborting}
@@ -120,7 +121,7 @@ settled-quiet : (e : Endpoint) (far : FarSeid) (is : List Item) → has 8 is ≡
 unfolding quietEnd settled isReported
 settled-quiet e far is unasked = ap not (stored-has 8 delaying-offerable is ∙ unasked)
 
-restored-quiet : (e : Endpoint) (caps is : List Item) → faultIn reconfiguring caps [] is .code ≡ 0 → quietEnd e ≡ true
+restored-quiet : (e : Endpoint) (caps is : List Item) → faultIn Reconfiguring caps is .code ≡ 0 → quietEnd e ≡ true
     → quietEnd (withConfig (restored is (items (e .config))) e) ≡ true
 unfolding quietEnd withConfig
 restored-quiet e caps is sound q = rw (restored-has-8 caps is (items (e .config)) sound) q
@@ -144,13 +145,13 @@ module _ (ends : Ends) (q : quietEnds ends ≡ true) where
   set-at-quiet p unasked i n =
       if-arms Quiet (not (isIdle (endAt ends i .state))) _ _ (λ t. stays-quiet _)
         λ t. if-arms Quiet (not (farRight (farIn (getD p 1 0)))) _ _ (λ t. stays-quiet _)
-          λ t. if-arms Quiet (not (eqb (settingFault (items (n .caps)) (items (drop 2 p)) .code) 0)) _ _ (λ t. stays-quiet _)
+          λ t. if-arms Quiet (not (eqb (faultIn Setting (items (n .caps)) (items (drop 2 p)) .code) 0)) _ _ (λ t. stays-quiet _)
             λ t. moves-quiet i _ (settled-quiet (endAt ends i) (farIn (getD p 1 0)) (items (drop 2 p)) unasked)
 
   reconfigure-at-quiet : (p : List ℕ) (i : ℕ) (n : Entry) → Quiet (reconfigureAt ends p i n)
   unfolding reconfigureAt
   reconfigure-at-quiet p i n =
-      let fault = faultIn reconfiguring (items (n .caps)) [] (items (drop 1 p)) in
+      let fault = faultIn Reconfiguring (items (n .caps)) (items (drop 1 p)) in
       if-arms Quiet (isIdle (endAt ends i .state)) _ _ (λ t. stays-quiet _)
         λ t. if-arms Quiet (not (isOpen (endAt ends i .state))) _ _ (λ t. stays-quiet _)
           λ t. if-arms Quiet (not (eqb (fault .code) 0)) _ _ (λ t. stays-quiet _)

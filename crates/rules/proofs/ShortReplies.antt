@@ -11,13 +11,14 @@ use lib.ListN.{length, drop, getD}
 use lib.Dec.{leb, eqb, lit≤}
 use borrow.Author.Tests.{leb-true, le-leb}
 use Rattle.rules.specs.Octets.{each-of}
-use Rattle.rules.specs.Elements.{items, reconfiguring, faultIn, settingFault}
+use Rattle.rules.specs.Elements.{items, faultIn}
 use Rattle.rules.specs.Book.{Entry, Book, shownBy02, shownBy0C}
 use Rattle.rules.specs.Packets.{Message, Gathering, gather}
 use Rattle.rules.specs.Endpoints.{Endpoint, Ends, Connection, isIdle, keepsNothing, legalEnd, legalEnds, awaiting}
 use Rattle.rules.specs.Endpoints.{takesDelay, farRight, endAt, legal}
 use Rattle.rules.specs.Commands.{Reply, silence, generalReject, accept, Outcome, stays, moves, rejectBare, rejectElement}
-use Rattle.rules.specs.Commands.{rejectSeid, farIn, isConfigured, isOpen, isStreaming, isSet, discovered, discover}
+use Rattle.rules.specs.Commands.{rejectPlain, rejectSeid, farIn, isConfigured, isOpen, isStreaming, isSet, discovered}
+use Rattle.rules.specs.Commands.{discover}
 use Rattle.rules.specs.Commands.{capabilities, setAt, setConfiguration, getConfiguration, reconfigureAt, reconfigure}
 use Rattle.rules.specs.Commands.{openUp, mayStart, maySuspend, turnOne, turnEach, turn, close, abort, securityControl}
 use Rattle.rules.specs.Commands.{delayReport, Signal, Discover, GetCapabilities, SetConfiguration, GetConfiguration}
@@ -25,6 +26,8 @@ use Rattle.rules.specs.Commands.{Reconfigure, OpenUp, Start, Close, Susp
 use Rattle.rules.specs.Commands.{DelayReport, Unassigned, signalOf, obey, answer}
 use Rattle.rules.specs.Host.{payloadOf, turnOf, takes}
 use Rattle.rules.specs.declared.OurSeid.{OurSeid}
+use Rattle.rules.specs.declared.Rule.the-variants.{Setting, Reconfiguring}
+use Rattle.rules.specs.declared.Fault.{Fault}
 use Rattle.rules.specs.declared.State.{State}
 use Rattle.rules.specs.declared.State.the-variants.{Streaming, Open}
 use Rattle.rules.proofs.Tests.{Told?, told, passed, failed, clash, and-l, and-r, and-both}
@@ -96,9 +99,13 @@ bare-short : (ends : Ends) (code : ℕ) → Short (stays ends (rejectBare code))
 unfolding stays payloadOf rejectBare
 bare-short ends code = lit≤ tt
 
-element-short : (ends : Ends) (category code : ℕ) → Short (stays ends (rejectElement category code))
+element-short : (ends : Ends) (f : Fault) → Short (stays ends (rejectElement f))
 unfolding stays payloadOf rejectElement
-element-short ends category code = lit≤ tt
+element-short ends f = lit≤ tt
+
+plain-short : (ends : Ends) (code : ℕ) → Short (stays ends (rejectPlain code))
+unfolding stays payloadOf rejectElement rejectPlain
+plain-short ends code = lit≤ tt
 
 seid-short : (ends : Ends) (s : OurSeid) (code : ℕ) → Short (stays ends (rejectSeid s code))
 unfolding stays payloadOf rejectSeid
@@ -130,15 +137,15 @@ module _ (book : Book) (ends : Ends) (right : RightBook book) (h : legalEnds boo
   unfolding setAt
   set-at-short p i n =
       let far = farIn (getD p 1 0) in
-      let fault = settingFault (items (n .caps)) (items (drop 2 p)) in
-      if-arms Short (not (isIdle (endAt ends i .state))) _ _ (λ t. element-short ends _ _) λ f.
-      if-arms Short (not (farRight far)) _ _ (λ t. element-short ends _ _) λ f.
-      if-arms Short (not (eqb (fault .code) 0)) _ _ (λ t. element-short ends _ _) λ f. moves-short ends i _
+      let fault = faultIn Setting (items (n .caps)) (items (drop 2 p)) in
+      if-arms Short (not (isIdle (endAt ends i .state))) _ _ (λ t. plain-short ends _) λ f.
+      if-arms Short (not (farRight far)) _ _ (λ t. plain-short ends _) λ f.
+      if-arms Short (not (eqb (fault .code) 0)) _ _ (λ t. element-short ends _) λ f. moves-short ends i _
 
   set-configuration-short : (p : List ℕ) → Short (setConfiguration book ends p)
   unfolding setConfiguration
   set-configuration-short p =
-      endpoint-arms Short (rejectElement 0) (leb 2 (length p)) book ends p _ (element-short ends 0) (λ i n a. set-at-short p i n)
+      endpoint-arms Short rejectPlain (leb 2 (length p)) book ends p _ (plain-short ends) (λ i n a. set-at-short p i n)
 
   get-configuration-short : (p : List ℕ) → Short (getConfiguration book ends p)
   unfolding getConfiguration payloadOf rejectBare
@@ -152,15 +159,15 @@ module _ (book : Book) (ends : Ends) (right : RightBook book) (h : legalEnds boo
   unfolding reconfigureAt
   reconfigure-at-short p i n =
       let e = endAt ends i in
-      let fault = faultIn reconfiguring (items (n .caps)) [] (items (drop 1 p)) in
-      if-arms Short (isIdle (e .state)) _ _ (λ t. element-short ends _ _) λ f.
-      if-arms Short (not (isOpen (e .state))) _ _ (λ t. element-short ends _ _) λ f.
-      if-arms Short (not (eqb (fault .code) 0)) _ _ (λ t. element-short ends _ _) λ f. moves-short ends i _
+      let fault = faultIn Reconfiguring (items (n .caps)) (items (drop 1 p)) in
+      if-arms Short (isIdle (e .state)) _ _ (λ t. plain-short ends _) λ f.
+      if-arms Short (not (isOpen (e .state))) _ _ (λ t. plain-short ends _) λ f.
+      if-arms Short (not (eqb (fault .code) 0)) _ _ (λ t. element-short ends _) λ f. moves-short ends i _
 
   reconfigure-short : (p : List ℕ) → Short (reconfigure book ends p)
   unfolding reconfigure
   reconfigure-short p =
-      endpoint-arms Short (rejectElement 0) (leb 3 (length p)) book ends p _ (element-short ends 0)
+      endpoint-arms Short rejectPlain (leb 3 (length p)) book ends p _ (plain-short ends)
         (λ i n a. reconfigure-at-short p i n)
 
   open-up-short : (p : List ℕ) → Short (openUp book ends p)

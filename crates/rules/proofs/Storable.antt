@@ -14,10 +14,13 @@ use borrow.Author.Tests.{eqb-true, eq-eqb, ne-eqb, eqb-false, not-false}
 use Rattle.rules.specs.Octets.{if_then_else_, sameOctets, member, isEmpty, some-of}
 use Rattle.rules.specs.Elements.{Item, whole, short, items, element, categoryOf, lengthCode, itemCategory, isOf, has}
 use Rattle.rules.specs.Elements.{bitsWithin, codecWithin, valueWithin, offersIn, offered, isStrange, fixed, itemCode}
-use Rattle.rules.specs.Elements.{firstFault, Asked, setting, reconfiguring, Fault, noFault, faultOr, faultIn, missing, settingFault}
-use Rattle.rules.specs.Elements.{offerable, clearLow, kept, pick, picks, stored, restored, couldStore}
+use Rattle.rules.specs.Elements.{offerable, noFault, judge, blamed, missing, lacking, faultOr, faultPast, faultIn}
+use Rattle.rules.specs.Elements.{clearLow, kept, pick, picks, stored, restored, couldStore}
 use Rattle.rules.specs.Book.{written}
 use Rattle.rules.specs.Computed.{computed}
+use Rattle.rules.specs.declared.Rule.{Rule}
+use Rattle.rules.specs.declared.Rule.the-variants.{Setting, Reconfiguring}
+use Rattle.rules.specs.declared.Fault.{Fault}
 use Rattle.rules.proofs.Tests.{Told?, passed, failed, told, clash, and-l, and-r, and-both, or-l, or-r, not-passed}
 use Rattle.rules.proofs.Tests.{same-octets, octets-same}
 use Rattle.rules.proofs.Lists.{items-none, items-element, written-length}
@@ -210,9 +213,9 @@ stored-again is =
 -- ---- The checks
 
 -- An element with no fault of its own: it passes in every list where its category was not seen before.
-record Fine (asked : Asked) (caps : List Item) (c : ℕ) (v : List ℕ) : Type 0 where
+record Fine (rule : Rule) (caps : List Item) (c : ℕ) (v : List ℕ) : Type 0 where
   known : isStrange (categoryOf c) ≡ false
-  free : fixed asked (categoryOf c) ≡ false
+  free : fixed rule (categoryOf c) ≡ false
   long : lengthCode (categoryOf c) (length v) ≡ 0
   given : offered caps c v ≡ true
 
@@ -224,59 +227,73 @@ code-clean : (n m : ℕ) → (if not (eqb n 0) then n else m) ≡ 0 → (n ≡ 0
 code-clean zero m e = (refl, e)
 code-clean (suc n) m e = absurd (suc-ne-zero n (rw (eqb·suc-zero n) at e))
 
-fine-of : (asked : Asked) (caps : List Item) (seen : List ℕ) (c : ℕ) (v : List ℕ) → itemCode asked caps seen (whole c v) ≡ 0
-    → Fine asked caps c v
+fine-of : (rule : Rule) (caps : List Item) (seen : List ℕ) (c : ℕ) (v : List ℕ) → itemCode rule caps seen (whole c v) ≡ 0
+    → Fine rule caps c v
 unfolding itemCode
-fine-of asked caps seen c v e =
+fine-of rule caps seen c v e =
     let (known, e₁) = else-clean (isStrange (categoryOf c)) 0x16 _ e in
-    let (free, e₂) = else-clean (fixed asked (categoryOf c)) 0x19 _ e₁ in
+    let (free, e₂) = else-clean (fixed rule (categoryOf c)) 0x19 _ e₁ in
     let (new, e₃) = else-clean (member c seen) 0x17 _ e₂ in
     let (long, e₄) = code-clean (lengthCode (categoryOf c) (length v)) _ e₃ in
     let (given, e₅) = else-clean (not (offered caps c v)) 0x28 0 e₄ in
     record { known = known; free = free; long = long; given = not-false (offered caps c v) given }
 
-fine-code : (asked : Asked) (caps : List Item) (seen : List ℕ) (c : ℕ) (v : List ℕ) → Fine asked caps c v → member c seen ≡ false
-    → itemCode asked caps seen (whole c v) ≡ 0
+fine-code : (rule : Rule) (caps : List Item) (seen : List ℕ) (c : ℕ) (v : List ℕ) → Fine rule caps c v → member c seen ≡ false
+    → itemCode rule caps seen (whole c v) ≡ 0
 unfolding itemCode
-fine-code asked caps seen c v f new = rw (f .known, f .free, new, f .long, f .given)
+fine-code rule caps seen c v f new = rw (f .known, f .free, new, f .long, f .given)
 
 -- no fault over a list, and none over its parts
-clean-head : (c n : ℕ) (f : Fault) → faultOr c n f .code ≡ 0 → n ≡ 0
-unfolding faultOr
-clean-head c zero f e = refl
-clean-head c (suc n) f e = e
+module _ (f later : Fault) (e : faultOr f later .code ≡ 0) where
+  pub clean-head : f .code ≡ 0
+  unfolding faultOr
+  clean-head = go (told (eqb (f .code) 0))
+    where
+      go : Told? (eqb (f .code) 0) → f .code ≡ 0
+      go (passed t) = eqb-true (f .code) 0 t
+      go (failed t) = rw t at e
 
-clean-tail : (c n : ℕ) (f : Fault) → faultOr c n f .code ≡ 0 → f .code ≡ 0
-unfolding faultOr
-clean-tail c zero f e = e
-clean-tail c (suc n) f e = absurd (suc-ne-zero n e)
+  pub clean-tail : later .code ≡ 0
+  unfolding faultOr
+  clean-tail = rw (eq-eqb (f .code) 0 clean-head) at e
+
+-- the rule of a command: each element is judged by `itemCode`
+abbrev pub Asks : Rule → Type 0
+Asks rule = (caps : List Item) (seen : List ℕ) (i : Item) → judge rule caps seen i ≡ itemCode rule caps seen i
+
+pub setting-asks : Asks Setting
+unfolding judge
+setting-asks caps seen i = refl
+
+pub reconfiguring-asks : Asks Reconfiguring
+unfolding judge
+reconfiguring-asks caps seen i = refl
 
 -- each element that can be picked is fine
-abbrev AllFine : Asked → List Item → List Item → Type 0
-AllFine asked caps is = (c : ℕ) (v : List ℕ) → valueOf c is ≡ some v → Fine asked caps c v
+abbrev AllFine : Rule → List Item → List Item → Type 0
+AllFine rule caps is = (c : ℕ) (v : List ℕ) → valueOf c is ≡ some v → Fine rule caps c v
 
-fine-first : (asked : Asked) (caps : List Item) (d : ℕ) (w : List ℕ) (is : List Item) → Fine asked caps d w
-    → AllFine asked caps is → AllFine asked caps (whole d w ∷ is)
+fine-first : (rule : Rule) (caps : List Item) (d : ℕ) (w : List ℕ) (is : List Item) → Fine rule caps d w
+    → AllFine rule caps is → AllFine rule caps (whole d w ∷ is)
 unfolding valueOf
-fine-first asked caps d w is f rest c v p = go (told (eqb c d))
+fine-first rule caps d w is f rest c v p = go (told (eqb c d))
   where
-    go : Told? (eqb c d) → Fine asked caps c v
+    go : Told? (eqb c d) → Fine rule caps c v
     go (passed e) =
         let same : w ≡ v = cc (rw e at p) in
-        subst₂ (Fine asked caps) (sym (eqb-true c d e)) same f
+        subst₂ (Fine rule caps) (sym (eqb-true c d e)) same f
     go (failed e) = rest c v (rw e at p)
 
-clean-fine : (asked : Asked) (caps : List Item) (seen : List ℕ) (is : List Item) → faultIn asked caps seen is .code ≡ 0
-    → AllFine asked caps is
-unfolding faultIn firstFault valueOf itemCategory
-clean-fine asked caps seen [] e = λ c v p. let z : _≡_ {A = ℕ} 0 1 = cc in absurd (omega arith)
-clean-fine asked caps seen (short d ∷ is) e =
-    clean-fine asked caps (d ∷ seen) is (clean-tail d (itemCode asked caps seen (short d)) _ e)
-clean-fine asked caps seen (whole d w ∷ is) e =
-    fine-first asked caps d w is (fine-of asked caps seen d w (clean-head d (itemCode asked caps seen (whole d w)) _ e))
-      (clean-fine asked caps (d ∷ seen) is (clean-tail d (itemCode asked caps seen (whole d w)) _ e))
+clean-fine : (rule : Rule) → Asks rule → (caps : List Item) (seen : List ℕ) (is : List Item)
+    → faultPast rule caps seen is .code ≡ 0 → AllFine rule caps is
+unfolding faultPast blamed valueOf itemCategory
+clean-fine rule asks caps seen [] e = λ c v p. let z : _≡_ {A = ℕ} 0 1 = cc in absurd (omega arith)
+clean-fine rule asks caps seen (short d ∷ is) e = clean-fine rule asks caps (d ∷ seen) is (clean-tail _ _ e)
+clean-fine rule asks caps seen (whole d w ∷ is) e =
+    fine-first rule caps d w is (fine-of rule caps seen d w (sym (asks caps seen (whole d w)) ∙ clean-head _ _ e))
+      (clean-fine rule asks caps (d ∷ seen) is (clean-tail _ _ e))
 
-fine-kept : (caps : List Item) (c : ℕ) (v : List ℕ) → Fine setting caps c v → Fine setting caps c (kept c v)
+fine-kept : (caps : List Item) (c : ℕ) (v : List ℕ) → Fine Setting caps c v → Fine Setting caps c (kept c v)
 fine-kept caps c v f =
     record {
       known = f .known;
@@ -287,12 +304,13 @@ fine-kept caps c v f =
 
 -- What is picked of a category has no fault before a list that has none.
 one-clean : (caps : List Item) (seen : List ℕ) (c : ℕ) (o : Option (List ℕ)) (rest : List Item)
-    → ((v : List ℕ) → o ≡ some v → Fine setting caps c v) → member c seen ≡ false → faultIn setting caps seen rest .code ≡ 0
-    → faultIn setting caps (c ∷ seen) rest .code ≡ 0 → faultIn setting caps seen (itemsOf c (keptOf c o) ++ rest) .code ≡ 0
-unfolding faultIn firstFault itemsOf keptOf itemCategory faultOr
-one-clean caps seen c none rest fine new e e′ = e
+    → ((v : List ℕ) → o ≡ some v → Fine Setting caps c v) → member c seen ≡ false
+    → (o ≡ none → faultPast Setting caps seen rest .code ≡ 0) → faultPast Setting caps (c ∷ seen) rest .code ≡ 0
+    → faultPast Setting caps seen (itemsOf c (keptOf c o) ++ rest) .code ≡ 0
+unfolding faultPast judge blamed itemsOf keptOf itemCategory faultOr
+one-clean caps seen c none rest fine new e e′ = e refl
 one-clean caps seen c (some v) rest fine new e e′ =
-    rw (fine-code setting caps seen c (kept c v) (fine-kept caps c v (fine v refl)) new) e′
+    rw (fine-code Setting caps seen c (kept c v) (fine-kept caps c v (fine v refl)) new) e′
 
 distinct : List ℕ → Bool
 distinct [] = true
@@ -309,34 +327,12 @@ distinct-tail c cs d = and-r (not (member c cs)) (distinct cs) d
 other-category : (b c : ℕ) (cs : List ℕ) → member b cs ≡ true → member c cs ≡ false → eqb b c ≡ false
 other-category b c cs m n = ne-eqb b c (λ e. clash m (rw e n))
 
-picks-clean : (caps is : List Item) → AllFine setting caps is → (cs seen : List ℕ) → distinct cs ≡ true
-    → ((c : ℕ) → member c cs ≡ true → member c seen ≡ false) → faultIn setting caps seen (items (picks cs is)) .code ≡ 0
-unfolding picks member faultIn firstFault noFault
-picks-clean caps is fine [] seen d new = rw items-none
-picks-clean caps is fine (c ∷ cs) seen d new =
-    let rest = distinct-tail c cs d in
-    let later : (b : ℕ) → member b cs ≡ true → member b seen ≡ false = λ b m. new b (or-r (eqb b c) (member b cs) m) in
-    rw (items-picks c cs is)
-      (one-clean caps seen c (valueOf c is) (items (picks cs is)) (fine c)
-         (new c (or-l (eqb c c) (member c cs) (eq-eqb c c refl)))
-         (picks-clean caps is fine cs seen rest later)
-         (picks-clean caps is fine cs (c ∷ seen) rest
-            (λ b m. ap₂ _||_ (other-category b c cs m (distinct-head c cs d)) (later b m))))
+-- ---- At the end 1 and 7 are there
 
--- ---- Set Configuration's check: no fault of an element, and 1 and 7 are there
-
-record Sound (caps is : List Item) : Type 0 where
-  clean : faultIn setting caps [] is .code ≡ 0
-  one : has 1 is ≡ true
-  seven : has 7 is ≡ true
-
-sound-setting : (caps is : List Item) → Sound caps is → settingFault caps is .code ≡ 0
-unfolding settingFault missing noFault
-sound-setting caps is p = rw (p .clean, p .one, p .seven)
-
-setting-sound : (caps is : List Item) → settingFault caps is .code ≡ 0 → Sound caps is
-unfolding settingFault missing
-setting-sound caps is e = go (told (eqb (faultIn setting caps [] is .code) 0))
+-- what the end of a Set Configuration tells
+both-seen : (seen : List ℕ) → lacking Setting seen .code ≡ 0 → (member 1 seen ≡ true) × (member 7 seen ≡ true)
+unfolding lacking missing
+both-seen seen e = there (member 1 seen) (member 7 seen) e
   where
     there : (a b : Bool)
         → (if not a then record { category = 1; code = 0x29 }
@@ -347,43 +343,102 @@ setting-sound caps is e = go (told (eqb (faultIn setting caps [] is .code) 0))
     there true false z = absurd (suc-ne-zero 0x28 z)
     there false b z = absurd (suc-ne-zero 0x28 z)
 
-    go : Told? (eqb (faultIn setting caps [] is .code) 0) → Sound caps is
-    go (passed z) =
-        let (one, seven) = there (has 1 is) (has 7 is) (rw z at e) in
-        record { clean = eqb-true (faultIn setting caps [] is .code) 0 z; one = one; seven = seven }
-    go (failed z) = absurd (eqb-false (faultIn setting caps [] is .code) 0 z (rw z at e))
+-- a category that is seen at the end is one of the list, or was seen before it
+clean-has : (caps : List Item) (c : ℕ) → ((seen : List ℕ) → lacking Setting seen .code ≡ 0 → member c seen ≡ true)
+    → (seen : List ℕ) (is : List Item) → faultPast Setting caps seen is .code ≡ 0 → member c seen || has c is ≡ true
+unfolding faultPast judge itemCode blamed itemCategory member has some-of isOf
+clean-has caps c ends seen [] e = or-l (member c seen) false (ends seen e)
+clean-has caps c ends seen (short d ∷ is) e = absurd (suc-ne-zero 0x10 (clean-head _ _ e))
+clean-has caps c ends seen (whole d v ∷ is) e =
+    swap (eqb c d) (member c seen) (has c is) (clean-has caps c ends (d ∷ seen) is (clean-tail _ _ e))
+  where
+    swap : (a b h : Bool) → (a || b) || h ≡ true → b || (a || h) ≡ true
+    swap true true h t = refl
+    swap true false h t = refl
+    swap false b h t = t
+
+-- a category that is still to be picked, or was seen
+abbrev Due : ℕ → List ℕ → List ℕ → List Item → Type 0
+Due b cs seen is = (member b cs && has b is) || member b seen ≡ true
+
+due-none : (b c : ℕ) (cs seen : List ℕ) (is : List Item) → valueOf c is ≡ none → Due b (c ∷ cs) seen is → Due b cs seen is
+unfolding member isThere
+due-none b c cs seen is e due =
+    go (eqb b c) (member b cs) (has b is) (member b seen) due
+      (λ t. ap (λ n. has n is) (eqb-true b c t) ∙ has-value c is ∙ ap isThere e)
+  where
+    go : (a p h m : Bool) → ((a || p) && h) || m ≡ true → (a ≡ true → h ≡ false) → (p && h) || m ≡ true
+    go true p true m d f = clash refl (f refl)
+    go true true false m d f = d
+    go true false false m d f = d
+    go false p h m d f = d
+
+due-some : (b c : ℕ) (cs seen : List ℕ) (is : List Item) → Due b (c ∷ cs) seen is → Due b cs (c ∷ seen) is
+unfolding member
+due-some b c cs seen is due = go (eqb b c) (member b cs) (has b is) (member b seen) due
+  where
+    go : (a p h m : Bool) → ((a || p) && h) || m ≡ true → (p && h) || (a || m) ≡ true
+    go true true true m d = refl
+    go true true false m d = refl
+    go true false h m d = refl
+    go false p h m d = d
+
+picks-clean : (caps is : List Item) → AllFine Setting caps is → (cs seen : List ℕ) → distinct cs ≡ true
+    → ((c : ℕ) → member c cs ≡ true → member c seen ≡ false) → Due 1 cs seen is → Due 7 cs seen is
+    → faultPast Setting caps seen (items (picks cs is)) .code ≡ 0
+unfolding picks member faultPast lacking missing noFault
+picks-clean caps is fine [] seen d new one seven = rw (items-none, one, seven)
+picks-clean caps is fine (c ∷ cs) seen d new one seven =
+    let rest = distinct-tail c cs d in
+    let later : (b : ℕ) → member b cs ≡ true → member b seen ≡ false = λ b m. new b (or-r (eqb b c) (member b cs) m) in
+    rw (items-picks c cs is)
+      (one-clean caps seen c (valueOf c is) (items (picks cs is)) (fine c)
+         (new c (or-l (eqb c c) (member c cs) (eq-eqb c c refl)))
+         (λ e. picks-clean caps is fine cs seen rest later (due-none 1 c cs seen is e one) (due-none 7 c cs seen is e seven))
+         (picks-clean caps is fine cs (c ∷ seen) rest
+            (λ b m. ap₂ _||_ (other-category b c cs m (distinct-head c cs d)) (later b m))
+            (due-some 1 c cs seen is one) (due-some 7 c cs seen is seven)))
+
+-- ---- Set Configuration's check: no fault of an element, and 1 and 7 are there
+
+record Sound (caps is : List Item) : Type 0 where
+  fine : AllFine Setting caps is
+  one : has 1 is ≡ true
+  seven : has 7 is ≡ true
+
+setting-sound : (caps is : List Item) → faultIn Setting caps is .code ≡ 0 → Sound caps is
+unfolding faultIn member
+setting-sound caps is e =
+    record {
+      fine = clean-fine Setting setting-asks caps [] is e;
+      one = clean-has caps 1 (λ seen z. both-seen seen z .0) [] is e;
+      seven = clean-has caps 7 (λ seen z. both-seen seen z .1) [] is e
+    }
 
 could-sound : (caps : List Item) (l : List ℕ) → couldStore caps l ≡ true → Sound caps (items l)
 unfolding couldStore
 could-sound caps l e =
     setting-sound caps (items l)
-      (eqb-true _ 0 (and-l (eqb (settingFault caps (items l) .code) 0) (sameOctets (stored (items l)) l) e))
+      (eqb-true _ 0 (and-l (eqb (faultIn Setting caps (items l) .code) 0) (sameOctets (stored (items l)) l) e))
 
 could-same : (caps : List Item) (l : List ℕ) → couldStore caps l ≡ true → stored (items l) ≡ l
 unfolding couldStore
 could-same caps l e =
     same-octets (stored (items l)) l
-      (and-r (eqb (settingFault caps (items l) .code) 0) (sameOctets (stored (items l)) l) e)
+      (and-r (eqb (faultIn Setting caps (items l) .code) 0) (sameOctets (stored (items l)) l) e)
 
 -- What is picked from fine elements with 1 and 7 could be stored.
-fine-could : (caps is : List Item) → AllFine setting caps is → has 1 is ≡ true → has 7 is ≡ true
-    → couldStore caps (stored is) ≡ true
-unfolding couldStore stored offerable distinct member
-fine-could caps is fine one seven =
-    let p : Sound caps (items (stored is)) =
-        record {
-          clean = picks-clean caps is fine offerable [] refl (λ c m. refl);
-          one = stored-has 1 refl is ∙ one;
-          seven = stored-has 7 refl is ∙ seven
-        } in
-    and-both (eqb (settingFault caps (items (stored is)) .code) 0) (sameOctets (stored (items (stored is))) (stored is))
-      (eq-eqb _ 0 (sound-setting caps (items (stored is)) p))
+fine-could : (caps is : List Item) → Sound caps is → couldStore caps (stored is) ≡ true
+unfolding couldStore faultIn stored offerable distinct member
+fine-could caps is p =
+    and-both (eqb (faultIn Setting caps (items (stored is)) .code) 0) (sameOctets (stored (items (stored is))) (stored is))
+      (eq-eqb _ 0
+         (picks-clean caps is (p .fine) offerable [] refl (λ c m. refl) (or-l (has 1 is) false (p .one))
+            (or-l (has 7 is) false (p .seven))))
       (rw stored-again (octets-same (stored is)))
 
-pub stored-could : (caps is : List Item) → settingFault caps is .code ≡ 0 → couldStore caps (stored is) ≡ true
-stored-could caps is e =
-    let p = setting-sound caps is e in
-    fine-could caps is (clean-fine setting caps [] is (p .clean)) (p .one) (p .seven)
+pub stored-could : (caps is : List Item) → faultIn Setting caps is .code ≡ 0 → couldStore caps (stored is) ≡ true
+stored-could caps is e = fine-could caps is (setting-sound caps is e)
 
 -- ---- Reconfigure: the new elements before the old ones
 
@@ -397,44 +452,45 @@ has-append c is js =
     there none p = refl
     there (some v) p = refl
 
-fine-append : (asked : Asked) (caps is js : List Item) → AllFine asked caps is → AllFine asked caps js
-    → AllFine asked caps (is ++ js)
+fine-append : (rule : Rule) (caps is js : List Item) → AllFine rule caps is → AllFine rule caps js → AllFine rule caps (is ++ js)
 unfolding either
-fine-append asked caps is js f g c v p = go (valueOf c is) refl
+fine-append rule caps is js f g c v p = go (valueOf c is) refl
   where
     q : either (valueOf c is) (valueOf c js) ≡ some v
     q = sym (value-append c is js) ∙ p
 
-    go : (o : Option (List ℕ)) → valueOf c is ≡ o → Fine asked caps c v
+    go : (o : Option (List ℕ)) → valueOf c is ≡ o → Fine rule caps c v
     go none e = g c v (rw e at q)
     go (some w) e = f c v (e ∙ (rw e at q))
 
 -- what Reconfigure takes, Set Configuration takes too
-fine-setting : (caps : List Item) (c : ℕ) (v : List ℕ) → Fine reconfiguring caps c v → Fine setting caps c v
+fine-setting : (caps : List Item) (c : ℕ) (v : List ℕ) → Fine Reconfiguring caps c v → Fine Setting caps c v
 unfolding fixed
 fine-setting caps c v f = record { known = f .known; free = refl; long = f .long; given = f .given }
 
 pub restored-could : (caps is : List Item) (old : List ℕ) → couldStore caps old ≡ true
-    → faultIn reconfiguring caps [] is .code ≡ 0 → couldStore caps (restored is (items old)) ≡ true
-unfolding restored
+    → faultIn Reconfiguring caps is .code ≡ 0 → couldStore caps (restored is (items old)) ≡ true
+unfolding restored faultIn
 restored-could caps is old could e =
     let p = could-sound caps old could in
+    let new = clean-fine Reconfiguring reconfiguring-asks caps [] is e in
     fine-could caps (is ++ items old)
-      (fine-append setting caps is (items old) (λ c v q. fine-setting caps c v (clean-fine reconfiguring caps [] is e c v q))
-         (clean-fine setting caps [] (items old) (p .clean)))
-      (has-append 1 is (items old) ∙ or-r (has 1 is) (has 1 (items old)) (p .one))
-      (has-append 7 is (items old) ∙ or-r (has 7 is) (has 7 (items old)) (p .seven))
+      (record {
+        fine = fine-append Setting caps is (items old) (λ c v q. fine-setting caps c v (new c v q)) (p .fine);
+        one = has-append 1 is (items old) ∙ or-r (has 1 is) (has 1 (items old)) (p .one);
+        seven = has-append 7 is (items old) ∙ or-r (has 7 is) (has 7 (items old)) (p .seven)
+      })
 
 -- delay reporting is fixed: 8 gives 1Ah in a Reconfigure, so no new element is one
-none-delaying : (caps is : List Item) → faultIn reconfiguring caps [] is .code ≡ 0 → has 8 is ≡ false
-unfolding isThere fixed categoryOf
+none-delaying : (caps is : List Item) → faultIn Reconfiguring caps is .code ≡ 0 → has 8 is ≡ false
+unfolding isThere fixed categoryOf faultIn
 none-delaying caps is e = has-value 8 is ∙ go (valueOf 8 is) refl
   where
     go : (o : Option (List ℕ)) → valueOf 8 is ≡ o → isThere (valueOf 8 is) ≡ false
     go none q = ap isThere q
-    go (some v) q = clash refl (clean-fine reconfiguring caps [] is e 8 v q .free)
+    go (some v) q = clash refl (clean-fine Reconfiguring reconfiguring-asks caps [] is e 8 v q .free)
 
-pub restored-has-8 : (caps is old : List Item) → faultIn reconfiguring caps [] is .code ≡ 0
+pub restored-has-8 : (caps is old : List Item) → faultIn Reconfiguring caps is .code ≡ 0
     → has 8 (items (restored is old)) ≡ has 8 old
 unfolding restored offerable member
 restored-has-8 caps is old e = stored-has 8 refl (is ++ old) ∙ has-append 8 is old ∙ rw (none-delaying caps is e)
@@ -535,7 +591,7 @@ offered-size (whole d w ∷ caps) c v long n e =
         rw (eq-eqb d c (sym same)) (omega arith)
     go (failed p) rest = let h = rest (rw p at e) in omega arith
 
-pick-size : (caps is : List Item) → AllFine setting caps is → (c : ℕ) → NoLonger c
+pick-size : (caps is : List Item) → AllFine Setting caps is → (c : ℕ) → NoLonger c
     → length (pick c is) ≤ sizeOf (λ d. eqb d c) caps
 unfolding offered octetsOf keptOf
 pick-size caps is fine c long = rw pick-value (go (valueOf c is) refl)
@@ -547,7 +603,7 @@ pick-size caps is fine c long = rw pick-value (go (valueOf c is) refl)
         offered-size caps c (kept c v) long (f .long) (f .given)
 
 -- each picked element has its room apart from the others
-picks-size : (caps is : List Item) → AllFine setting caps is → (cs : List ℕ) → distinct cs ≡ true → Each NoLonger cs
+picks-size : (caps is : List Item) → AllFine Setting caps is → (cs : List ℕ) → distinct cs ≡ true → Each NoLonger cs
     → length (picks cs is) ≤ sizeOf (λ d. member d cs) caps
 unfolding picks member
 picks-size caps is fine [] d long = zero-le
@@ -560,7 +616,7 @@ picks-size caps is fine (c ∷ cs) d long =
 pub could-short : (l config : List ℕ) → couldStore (items l) config ≡ true → length config ≤ length l
 unfolding stored distinct offerable member
 could-short l config e =
-    let fine = clean-fine setting (items l) [] (items config) (could-sound (items l) config e .clean) in
+    let fine = could-sound (items l) config e .fine in
     let picked = picks-size (items l) (items config) fine offerable refl offerable-within in
     let room = size-written (λ d. member d offerable) (items l) in
     omega (arith, ap length (could-same (items l) config e), written-length l)
@@ -577,7 +633,7 @@ asks = 0x07 ∷ 0x06 ∷ 0x0F ∷ 0x00 ∷ 0x21 ∷ 0x15 ∷ 0x02 ∷ 0x35 ∷ 0
 abbrev keeps : List ℕ
 keeps = 0x01 ∷ 0x00 ∷ 0x07 ∷ 0x06 ∷ 0x00 ∷ 0x00 ∷ 0x21 ∷ 0x15 ∷ 0x02 ∷ 0x35 ∷ 0x08 ∷ 0x00 ∷ []
 
-pub asks-clean : settingFault (items offers) (items asks) .code ≡ 0
+pub asks-clean : faultIn Setting (items offers) (items asks) .code ≡ 0
 unfolding computed
 asks-clean = refl
 
@@ -593,7 +649,7 @@ keeps-could = refl
 abbrev asks-anew : List ℕ
 asks-anew = 0x07 ∷ 0x06 ∷ 0x05 ∷ 0x00 ∷ 0x11 ∷ 0x02 ∷ 0x02 ∷ 0x20 ∷ []
 
-pub anew-clean : faultIn reconfiguring (items offers) [] (items asks-anew) .code ≡ 0
+pub anew-clean : faultIn Reconfiguring (items offers) (items asks-anew) .code ≡ 0
 unfolding computed
 anew-clean = refl
 

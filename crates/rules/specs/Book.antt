@@ -1,12 +1,13 @@
 -- The endpoint book (document 01, The endpoint book; numbers 1 to 7 of What the host is told).
-use Prim.Native.Nat.{ℕ, zero, suc, _*_, _/_, _%_}
+use Prim.Native.Nat.{ℕ, zero, suc, _/_, _%_}
 use mathlib.Core.List.{List, [], _∷_, _++_}
-use mathlib.Core.Bool.{Bool, true, false, not, _&&_, _||_}
+use mathlib.Core.Bool.{Bool, not, _&&_}
 use lib.ListN.{length, take, drop, getD}
 use lib.Dec.{leb, ltb, eqb}
-use Rattle.rules.specs.Octets.{if_then_else_, between, sameOctets, member, isEmpty}
-use Rattle.rules.specs.Elements.{Item, whole, short, items, categoryOf, lengthCode, firstFault, has, offerable, element}
+use Rattle.rules.specs.Octets.{if_then_else_, between, sameOctets, isEmpty}
+use Rattle.rules.specs.Elements.{Item, whole, short, items, faultIn, element}
 use Rattle.rules.specs.declared.OurSeid.{OurSeid}
+use Rattle.rules.specs.declared.Rule.the-variants.{Offer}
 
 -- One endpoint of ours: its SEID, its kind octet and the octets of the list that it offers.
 pub record Entry : Type 0 where
@@ -27,26 +28,8 @@ mediaType k = k / 16
 unfoldable pub isSource : ℕ → Bool
 isSource k = eqb (k / 8 % 2) 0
 
--- ---- The list of an entry
-
--- ascending, each at most once but for 4; `before` is 0 where none stands before
-unfoldable pub mayFollow : ℕ → ℕ → Bool
-mayFollow before c = ltb before c || (eqb before 4 && eqb c 4)
-
--- 7 starts with media type times 16
-unfoldable pub startRight : ℕ → ℕ → List ℕ → Bool
-startRight media c v = not (eqb c 7) || eqb (getD v 0 0) (media * 16)
-
--- An element of an entry's list after those of some categories, the nearest first: 0, or 7 where it breaks a rule.
-unfoldable pub offerCode : ℕ → List ℕ → Item → ℕ
-offerCode media seen (short c) = 7
-offerCode media seen (whole c v) =
-    if mayFollow (getD seen 0 0) c && member c offerable && eqb (lengthCode (categoryOf c) (length v)) 0 && startRight media c v
-    then 0 else 7
-
--- 1 and 7 are present
 unfoldable pub listRight : ℕ → List Item → Bool
-listRight media is = eqb (firstFault (offerCode media) [] is .code) 0 && has 1 is && has 7 is
+listRight media is = eqb (faultIn (Offer media) [] is .code) 0
 
 -- ---- The check, with the number that the host is told: 0 where the book is right
 

@@ -5,7 +5,7 @@ use mathlib.Core.Bool.{Bool, true, false, not, _&&_, _||_}
 use lib.ListN.{length, drop, getD, set}
 use lib.Dec.{leb, eqb}
 use Rattle.rules.specs.Octets.{if_then_else_}
-use Rattle.rules.specs.Elements.{items, reconfiguring, faultIn, settingFault, stored, restored}
+use Rattle.rules.specs.Elements.{items, faultIn, stored, restored}
 use Rattle.rules.specs.Book.{Entry, Book, Found, unknown, known, find, shownBy02, shownBy0C}
 use Rattle.rules.specs.Packets.{Message}
 use Rattle.rules.specs.Endpoints.{Endpoint, Ends, isIdle, isUp, awaiting, takesDelay, farRight, inState, withChannel}
@@ -13,6 +13,8 @@ use Rattle.rules.specs.Endpoints.{withDelay, withConfig, leaving, endAt}
 use Rattle.rules.specs.Saved.{pairIn}
 use Rattle.rules.specs.declared.OurSeid.{OurSeid}
 use Rattle.rules.specs.declared.FarSeid.{FarSeid}
+use Rattle.rules.specs.declared.Rule.the-variants.{Setting, Reconfiguring}
+use Rattle.rules.specs.declared.Fault.{Fault}
 use Rattle.rules.specs.declared.State.{State}
 use Rattle.rules.specs.declared.State.the-variants.{Idle, Configured, Open, Streaming, Closing, Aborting}
 use Rattle.rules.specs.declared.Channel.the-variants.{Absent, Awaited}
@@ -43,8 +45,12 @@ moves ends i e = record { ends = set ends i e; reply = accept [] }
 unfoldable pub rejectBare : ℕ → Reply
 rejectBare code = reject (code ∷ [])
 
-unfoldable pub rejectElement : ℕ → ℕ → Reply
-rejectElement category code = reject (category ∷ code ∷ [])
+unfoldable pub rejectElement : Fault → Reply
+rejectElement f = reject (f .category ∷ f .code ∷ [])
+
+-- before the elements, with category 0
+unfoldable pub rejectPlain : ℕ → Reply
+rejectPlain code = rejectElement (record { category = 0; code = code })
 
 unfoldable pub rejectSeid : OurSeid → ℕ → Reply
 rejectSeid s code = reject (s .0 * 4 ∷ code ∷ [])
@@ -128,14 +134,14 @@ setAt ends p i n =
     let e = endAt ends i in
     let far = farIn (getD p 1 0) in
     let asked = items (drop 2 p) in
-    let fault = settingFault (items (n .caps)) asked in
-    if not (isIdle (e .state)) then stays ends (rejectElement 0 0x13)
-    else if not (farRight far) then stays ends (rejectElement 0 0x18)
-    else if not (eqb (fault .code) 0) then stays ends (rejectElement (fault .category) (fault .code))
+    let fault = faultIn Setting (items (n .caps)) asked in
+    if not (isIdle (e .state)) then stays ends (rejectPlain 0x13)
+    else if not (farRight far) then stays ends (rejectPlain 0x18)
+    else if not (eqb (fault .code) 0) then stays ends (rejectElement fault)
     else moves ends i (settled e far (stored asked))
 
 unfoldable pub setConfiguration : Book → Ends → List ℕ → Outcome
-setConfiguration book ends p = atEndpoint (rejectElement 0) (leb 2 (length p)) book ends p (setAt ends p)
+setConfiguration book ends p = atEndpoint rejectPlain (leb 2 (length p)) book ends p (setAt ends p)
 
 -- ---- 04 Get Configuration
 
@@ -151,14 +157,14 @@ unfoldable pub reconfigureAt : Ends → List ℕ → ℕ → Entry → Outcome
 reconfigureAt ends p i n =
     let e = endAt ends i in
     let asked = items (drop 1 p) in
-    let fault = faultIn reconfiguring (items (n .caps)) [] asked in
-    if isIdle (e .state) then stays ends (rejectElement 0 0x14)
-    else if not (isOpen (e .state)) then stays ends (rejectElement 0 0x31)
-    else if not (eqb (fault .code) 0) then stays ends (rejectElement (fault .category) (fault .code))
+    let fault = faultIn Reconfiguring (items (n .caps)) asked in
+    if isIdle (e .state) then stays ends (rejectPlain 0x14)
+    else if not (isOpen (e .state)) then stays ends (rejectPlain 0x31)
+    else if not (eqb (fault .code) 0) then stays ends (rejectElement fault)
     else moves ends i (withConfig (restored asked (items (e .config))) e)
 
 unfoldable pub reconfigure : Book → Ends → List ℕ → Outcome
-reconfigure book ends p = atEndpoint (rejectElement 0) (leb 3 (length p)) book ends p (reconfigureAt ends p)
+reconfigure book ends p = atEndpoint rejectPlain (leb 3 (length p)) book ends p (reconfigureAt ends p)
 
 -- ---- 06 Open
 

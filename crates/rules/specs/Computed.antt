@@ -1,11 +1,11 @@
 -- One name that opens all definitions: a theorem that is computed says `unfolding computed`.
 use Rattle.rules.specs.Octets.{between, sameOctets, member, isEmpty, some-of, each-of, front}
 use Rattle.rules.specs.Elements.{headed, itemsPast, element, categoryOf, lengthCode, bitsWithin, codecWithin, valueWithin}
-use Rattle.rules.specs.Elements.{offersIn, offered, fixed, isStrange, noFault, itemCategory, itemCode, faultOr, firstFault}
-use Rattle.rules.specs.Elements.{faultIn, isOf, has, missing, settingFault, offerable, clearLow, kept, pick, picks, stored}
-use Rattle.rules.specs.Elements.{restored, couldStore}
-use Rattle.rules.specs.Book.{kindRight, mediaType, isSource, mayFollow, startRight, offerCode, listRight, entriesNumber}
-use Rattle.rules.specs.Book.{bookNumber, entriesIn, bookOf, later, find, written, upToCodec, shownBy02, shownBy0C}
+use Rattle.rules.specs.Elements.{offerable, mayFollow, startRight, offerCode, offersIn, offered, fixed, isStrange, itemCode}
+use Rattle.rules.specs.Elements.{noFault, judge, itemCategory, blamed, missing, lacking, faultOr, faultPast, faultIn, isOf, has}
+use Rattle.rules.specs.Elements.{clearLow, kept, pick, picks, stored, restored, couldStore}
+use Rattle.rules.specs.Book.{kindRight, mediaType, isSource, listRight, entriesNumber, bookNumber, entriesIn, bookOf}
+use Rattle.rules.specs.Book.{later, find, written, upToCodec, shownBy02, shownBy0C}
 use Rattle.rules.specs.Packets.{sizeRight, longest, labelIn, typeIn, signalIn, kindIn, messageFrom, readAs, read, packetIn}
 use Rattle.rules.specs.Packets.{ended, completes, gathers, extended, begin, isNext, joined, goesOn, taken, gather}
 use Rattle.rules.specs.Packets.{gatheringRight}
@@ -19,8 +19,9 @@ use Rattle.rules.specs.Saved.{areaFor, countIn, linkOf, recordsOf, endpo
 use Rattle.rules.specs.Saved.{endsIn, recordsRight, storeEnds}
 use Rattle.rules.specs.Saved.{gatheringAt, gatheringIn, gatheringOctetsRight, gatheringHead, storeGathering, connectionIn}
 use Rattle.rules.specs.Saved.{store, savedRight}
-use Rattle.rules.specs.Commands.{stays, moves, rejectBare, rejectElement, rejectSeid, ourIn, farIn, foundOr, atEndpoint}
-use Rattle.rules.specs.Commands.{isConfigured, isOpen, isStreaming, isSet, inUse, discovered, discover, capabilities}
+use Rattle.rules.specs.Commands.{stays, moves, rejectBare, rejectElement, rejectPlain, rejectSeid, ourIn, farIn, foundOr}
+use Rattle.rules.specs.Commands.{atEndpoint, isConfigured, isOpen, isStreaming, isSet, inUse, discovered, discover}
+use Rattle.rules.specs.Commands.{capabilities}
 use Rattle.rules.specs.Commands.{settled, setAt, setConfiguration, getConfiguration, reconfigureAt, reconfigure, openUp}
 use Rattle.rules.specs.Commands.{mayStart, maySuspend, turnOne, turnEach, turn, close, abort, securityControl, delayReport}
 use Rattle.rules.specs.Commands.{signalOf, obey, answer}
@@ -31,9 +32,9 @@ use Rattle.rules.specs.Sessions.{kept as keptBy, answered, asked, call, 
 
 unfoldable pub computed : Unit {0}
 unfolding between sameOctets member isEmpty some-of each-of front headed itemsPast element categoryOf lengthCode bitsWithin
-    codecWithin valueWithin offersIn offered fixed isStrange noFault itemCategory itemCode faultOr firstFault faultIn isOf
-    has missing settingFault offerable clearLow kept pick picks stored restored couldStore kindRight mediaType isSource
-    mayFollow startRight offerCode listRight entriesNumber bookNumber entriesIn bookOf later find written upToCodec
+    codecWithin valueWithin offerable mayFollow startRight offerCode offersIn offered fixed isStrange itemCode noFault judge
+    itemCategory blamed missing lacking faultOr faultPast faultIn isOf has clearLow kept pick picks stored restored
+    couldStore kindRight mediaType isSource listRight entriesNumber bookNumber entriesIn bookOf later find written upToCodec
     shownBy02 shownBy0C sizeRight longest labelIn typeIn signalIn kindIn messageFrom readAs read packetIn ended completes
     gathers extended begin isNext joined goesOn taken gather gatheringRight packetsFor partOf firstOctet header countOf
     packetAt packetsFrom cutUp withDone gatherAll idle freshEnds freshConnection isAbsent isAwaited isUp isIdle isReported
@@ -41,8 +42,8 @@ unfolding between sameOctets member isEmpty some-of each-of front headed itemsPa
     legal inState withChannel withDelay withConfig forgotten leaving endAt upIn withEnds downAt happens areaFor countIn
     linkOf recordsOf endpointIn
     recordRight headOf storeEnd endsIn recordsRight storeEnds gatheringAt gatheringIn gatheringOctetsRight gatheringHead
-    storeGathering connectionIn store savedRight stays moves rejectBare rejectElement rejectSeid ourIn farIn foundOr
-    atEndpoint isConfigured isOpen isStreaming isSet inUse discovered discover capabilities settled setAt setConfiguration
+    storeGathering connectionIn store savedRight stays moves rejectBare rejectElement rejectPlain rejectSeid ourIn farIn
+    foundOr atEndpoint isConfigured isOpen isStreaming isSet inUse discovered discover capabilities settled setAt setConfiguration
     getConfiguration reconfigureAt reconfigure openUp mayStart maySuspend turnOne turnEach turn close abort
     securityControl delayReport signalOf obey answer checkCall numberOr savedNumber refusalOf packetRefusal freshCall
     nothingSaid said toldOf payloadOf turnOf takes packetCall eventCall settingsOf shownAt settingsCall heard heardAt

@@ -1,12 +1,15 @@
--- Lists of elements: how octets are read as elements, the checks of document 01's "Elements" with the category and code of the
--- first failure, and what a stored configuration is.
+-- Lists of elements: how octets are read as elements, the checks of a list by its rule with the first failure, and what a stored
+-- configuration is (document 01, The endpoint book and Elements).
 use Prim.Native.Nat.{ℕ, zero, suc, _/_, _*_}
 use mathlib.Core.List.{List, [], _∷_, _++_}
-use mathlib.Core.Bool.{Bool, true, false, not, _&&_}
+use mathlib.Core.Bool.{Bool, true, false, not, _&&_, _||_}
 use lib.ListN.{length, take, getD}
 use lib.Dec.{leb, ltb, eqb}
 use lib.Bits.{bitAnd}
 use Rattle.rules.specs.Octets.{if_then_else_, sameOctets, member, some-of}
+use Rattle.rules.specs.declared.Rule.{Rule}
+use Rattle.rules.specs.declared.Rule.the-variants.{Offer, Setting, Reconfiguring}
+use Rattle.rules.specs.declared.Fault.{Fault}
 
 -- ---- "A list of elements is empty, or one whole element followed by a list" (document 01, The endpoint book; 001, 8.21.1)
 
@@ -58,6 +61,27 @@ lengthCode codec n = if ltb n 2 then 0x18 else 0
 lengthCode delaying n = if eqb n 0 then 0 else 0x18
 lengthCode strange n = 0x17
 
+-- ---- An element of an entry's list (document 01, The endpoint book)
+
+-- the categories that a book can offer, ascending
+unfoldable pub offerable : List ℕ
+offerable = 1 ∷ 2 ∷ 4 ∷ 7 ∷ 8 ∷ []
+
+-- ascending, each at most once but for 4; `before` is 0 where none stands before
+unfoldable pub mayFollow : ℕ → ℕ → Bool
+mayFollow before c = ltb before c || (eqb before 4 && eqb c 4)
+
+-- 7 starts with media type times 16
+unfoldable pub startRight : ℕ → ℕ → List ℕ → Bool
+startRight media c v = not (eqb c 7) || eqb (getD v 0 0) (media * 16)
+
+-- The element after those of some categories, the nearest first: 0, or 7 where it breaks a rule.
+unfoldable pub offerCode : ℕ → List ℕ → Item → ℕ
+offerCode media seen (short c) = 7
+offerCode media seen (whole c v) =
+    if mayFollow (getD seen 0 0) c && member c offerable && eqb (lengthCode (categoryOf c) (length v)) 0 && startRight media c v
+    then 0 else 7
+
 -- ---- Offered (document 01, Elements)
 
 -- each octet has no bit that the offered octet lacks, and there are as many
@@ -95,24 +119,21 @@ offersIn c v (whole d w) = eqb c d && valueWithin (categoryOf c) v w
 unfoldable pub offered : List Item → ℕ → List ℕ → Bool
 offered caps c v = some-of (offersIn c v) caps
 
--- ---- The checks, left to right (document 01, Elements; Commands, 03 and 05)
-
--- which command the elements stand in
-pub data Asked : Type 0 where
-  setting reconfiguring : Asked
+-- ---- An element of a command (document 01, Elements; Commands, 03 and 05)
 
 -- Reconfigure takes codecs and content protection only: 1, 2, 3, 5, 6 and 8 give 1Ah right after the category check.
-unfoldable pub fixed : Asked → Category → Bool
-fixed setting c = false
-fixed reconfiguring transport = true
-fixed reconfiguring reporting = true
-fixed reconfiguring recovery = true
-fixed reconfiguring protection = false
-fixed reconfiguring compression = true
-fixed reconfiguring multiplexing = true
-fixed reconfiguring codec = false
-fixed reconfiguring delaying = true
-fixed reconfiguring strange = false
+unfoldable pub fixed : Rule → Category → Bool
+fixed (Offer media) c = false
+fixed Setting c = false
+fixed Reconfiguring transport = true
+fixed Reconfiguring reporting = true
+fixed Reconfiguring recovery = true
+fixed Reconfiguring protection = false
+fixed Reconfiguring compression = true
+fixed Reconfiguring multiplexing = true
+fixed Reconfiguring codec = false
+fixed Reconfiguring delaying = true
+fixed Reconfiguring strange = false
 
 unfoldable pub isStrange : Category → Bool
 isStrange transport = false
@@ -125,40 +146,63 @@ isStrange codec = false
 isStrange delaying = false
 isStrange strange = true
 
--- The first failure: its category and code. Code 0: there is none.
-pub record Fault : Type 0 where
-  pub category : ℕ
-  pub code : ℕ
-
-unfoldable pub noFault : Fault
-noFault = record { category = 0; code = 0 }
-
-unfoldable pub itemCategory : Item → ℕ
-itemCategory (whole c v) = c
-itemCategory (short c) = c
-
-unfoldable pub itemCode : Asked → List Item → List ℕ → Item → ℕ
-itemCode asked caps seen (short c) = 0x11
-itemCode asked caps seen (whole c v) =
+-- The element after those of some categories: the code of its first failure, or 0.
+unfoldable pub itemCode : Rule → List Item → List ℕ → Item → ℕ
+itemCode rule caps seen (short c) = 0x11
+itemCode rule caps seen (whole c v) =
     if isStrange (categoryOf c) then 0x17
-    else if fixed asked (categoryOf c) then 0x1A
+    else if fixed rule (categoryOf c) then 0x1A
     else if member c seen then 0x18
     else if not (eqb (lengthCode (categoryOf c) (length v)) 0) then lengthCode (categoryOf c) (length v)
     else if not (offered caps c v) then 0x29
     else 0
 
-unfoldable pub faultOr : ℕ → ℕ → Fault → Fault
-faultOr c zero later = later
-faultOr c (suc n) later = record { category = c; code = suc n }
+-- ---- A list by its rule: the elements left to right, and at the end what is missing. The first failure counts.
 
--- The items left to right, each judged by the categories before it, the nearest first.
-unfoldable pub firstFault : (List ℕ → Item → ℕ) → List ℕ → List Item → Fault
-firstFault judge seen [] = noFault
-firstFault judge seen (i ∷ is) =
-    faultOr (itemCategory i) (judge seen i) (firstFault judge (itemCategory i ∷ seen) is)
+unfoldable pub noFault : Fault
+noFault = record { category = 0; code = 0 }
 
-unfoldable pub faultIn : Asked → List Item → List ℕ → List Item → Fault
-faultIn asked caps seen is = firstFault (itemCode asked caps) seen is
+unfoldable pub judge : Rule → List Item → List ℕ → Item → ℕ
+judge (Offer media) caps seen i = offerCode media seen i
+judge Setting caps seen i = itemCode Setting caps seen i
+judge Reconfiguring caps seen i = itemCode Reconfiguring caps seen i
+
+unfoldable pub itemCategory : Item → ℕ
+itemCategory (whole c v) = c
+itemCategory (short c) = c
+
+-- what an element is told with
+unfoldable pub blamed : Item → ℕ → Fault
+blamed i code = record { category = itemCategory i; code = code }
+
+-- 1 missing, then 7 missing, with a code
+unfoldable pub missing : ℕ → List ℕ → Fault
+missing code seen =
+    if not (member 1 seen) then record { category = 1; code = code }
+    else if not (member 7 seen) then record { category = 7; code = code }
+    else noFault
+
+-- At the end of a list with elements of these categories: 1 and 7 are present in an entry's list (7) and in a Set Configuration
+-- (29h), and a Reconfigure misses nothing.
+unfoldable pub lacking : Rule → List ℕ → Fault
+lacking (Offer media) seen = missing 7 seen
+lacking Setting seen = missing 0x29 seen
+lacking Reconfiguring seen = noFault
+
+unfoldable pub faultOr : Fault → Fault → Fault
+faultOr f later = if eqb (f .code) 0 then later else f
+
+-- after elements of some categories, the nearest first
+unfoldable pub faultPast : Rule → List Item → List ℕ → List Item → Fault
+faultPast rule caps seen [] = lacking rule seen
+faultPast rule caps seen (i ∷ is) =
+    faultOr (blamed i (judge rule caps seen i)) (faultPast rule caps (itemCategory i ∷ seen) is)
+
+-- a whole list, of an entry (which takes no offer) or of a command to an endpoint that offers `caps`
+unfoldable pub faultIn : Rule → List Item → List Item → Fault
+faultIn rule caps is = faultPast rule caps [] is
+
+-- ---- A category among the elements
 
 unfoldable pub isOf : ℕ → Item → Bool
 isOf c (whole d v) = eqb c d
@@ -168,23 +212,7 @@ isOf c (short d) = false
 unfoldable pub has : ℕ → List Item → Bool
 has c is = some-of (isOf c) is
 
--- Set Configuration: the elements, then 1 missing, then 7 missing.
-unfoldable pub missing : List Item → Fault
-missing is =
-    if not (has 1 is) then record { category = 1; code = 0x29 }
-    else if not (has 7 is) then record { category = 7; code = 0x29 }
-    else noFault
-
-unfoldable pub settingFault : List Item → List Item → Fault
-settingFault caps is =
-    let f = faultIn setting caps [] is in
-    if eqb (f .code) 0 then missing is else f
-
 -- ---- What is stored (document 01, Elements and Commands, 05)
-
--- the categories that a book can offer, ascending
-unfoldable pub offerable : List ℕ
-offerable = 1 ∷ 2 ∷ 4 ∷ 7 ∷ 8 ∷ []
 
 unfoldable pub clearLow : List ℕ → List ℕ
 clearLow [] = []
@@ -214,4 +242,4 @@ restored new old = stored (new ++ old)
 
 -- A configuration that Set Configuration could have stored: checking and storing its octets gives them again.
 unfoldable pub couldStore : List Item → List ℕ → Bool
-couldStore caps l = eqb (settingFault caps (items l) .code) 0 && sameOctets (stored (items l)) l
+couldStore caps l = eqb (faultIn Setting caps (items l) .code) 0 && sameOctets (stored (items l)) l

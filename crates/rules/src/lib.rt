@@ -35,14 +35,6 @@ pub enum Event {
     Lost,
 }
 
-// What stands at a place of a list of elements: nothing more, an element that is cut short, or a whole one with the length of its
-// value and the place where the value begins.
-pub enum Head {
-    End,
-    Short { category: u8 },
-    Whole { category: u8, length: usize, first: usize },
-}
-
 // What a list of elements is checked for: as the offer of an entry with a media type, or as what a command asks.
 pub enum Rule {
     Offer { media: u8 },
@@ -50,23 +42,10 @@ pub enum Rule {
     Reconfiguring,
 }
 
-// Where in a list the value of the element of each category begins, 0 where there is none, and the category passed last.
-pub struct Marks {
-    pub last: u8,
-    pub transport: u16,
-    pub reporting: u16,
-    pub recovery: u16,
-    pub protection: u16,
-    pub compression: u16,
-    pub multiplexing: u16,
-    pub codec: u16,
-    pub delaying: u16,
-}
-
-// What a check of a list comes to: its first failure, or the places of its elements.
-pub enum Walked {
-    Fault { category: u8, code: u8 },
-    Clean(Marks),
+// The first failure of a list of elements: the category and the code that it is told with. Code 0: there is none.
+pub struct Fault {
+    pub category: u8,
+    pub code: u8,
 }
 
 // Where a book has a SEID: which entry it is, counted from 0, its kind octet, and where its list begins and how long it is.

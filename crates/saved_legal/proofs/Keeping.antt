@@ -6,21 +6,24 @@ use mathlib.Core.List.{List}
 use mathlib.Core.Bool.{true, false, not, _&&_, _||_}
 use lib.ListN.{length}
 use lib.Dec.{eqb}
-use borrow.Author.Tests.{eqb-true}
+use borrow.Author.Tests.{eq-eqb, ne-eqb}
 use Rattle.rules.specs.Octets.{sameOctets}
-use Rattle.rules.specs.Elements.{items, categoryOf, isStrange, has, settingFault, stored, couldStore}
+use Rattle.rules.specs.Elements.{items, categoryOf, isStrange, has, faultIn, stored, couldStore}
 use Rattle.rules.specs.Book.{isSource}
-use Rattle.rules.specs.Walks.{noMarks, markOf, marksFrom, settingOf}
 use Rattle.rules.specs.Endpoints.{isReported, farRight}
 use Rattle.rules.specs.declared.FarSeid.{FarSeid}
 use Rattle.rules.specs.declared.Delay.{Delay}
-use Rattle.rules.specs.declared.Marks.{Marks}
-use Rattle.rules.specs.declared.Walked.the-variants.{Fault as Failed, Clean}
+use Rattle.rules.specs.declared.Rule.the-variants.{Setting}
+use Rattle.rules.specs.declared.Fault.{Fault}
 use Rattle.rules.proofs.Storable.{stored-could, could-short}
 use Rattle.octets.specs.Patch.{patch, part}
 use Rattle.octets.proofs.Patches.{part-patch}
+use Rattle.elements.specs.Marks.{noMarks, markOf, marksFrom}
+use Rattle.elements.specs.Walks.{checkOf}
+use Rattle.elements.specs.declared.marks.Marks.{Marks}
+use Rattle.elements.specs.declared.walks.Walked.the-variants.{Failed, Clean}
 use Rattle.elements.proofs.Passing.{isMarked, has-marked}
-use Rattle.elements.proofs.Judging.{told-clean, told-failed}
+use Rattle.elements.proofs.Judging.{check-clean, check-failed}
 use Rattle.elements_stored.specs.Stores.{markedStore, MarksFit}
 use Rattle.elements_stored.proofs.Stores.{Stores, set-stores}
 use Rattle.saved_legal.specs.Legal.{settingsRight}
@@ -39,29 +42,27 @@ module _ (caps : List ℕ) (kind : ℕ) (far : FarSeid) (config : List ℕ) (del
   far-wrong e = rw e
 
   module _ (near : farRight far ≡ true) where
-    pub has-fault : (c code : ℕ) → Failed c code ≡ settingOf (items caps) config 0
+    pub has-fault : (f : Fault) → Failed f ≡ checkOf Setting (items caps) config 0
       → false ≡ settingsRight caps kind far config delay
-    unfolding settingsRight couldStore settingOf
-    has-fault c code e =
-        rw (near, told-failed (settingFault (items caps) (items config)) (marksFrom config 0 noMarks) c code e)
+    unfolding settingsRight couldStore
+    has-fault f e = rw (near, ne-eqb _ 0 (check-failed Setting (items caps) config 0 f e .0))
 
-    module _ (m : Marks) (e : Clean m ≡ settingOf (items caps) config 0) where
-      no-fault : (eqb (settingFault (items caps) (items config) .code) 0 ≡ true) × (m ≡ marksFrom config 0 noMarks)
-      unfolding settingOf
-      no-fault = told-clean (settingFault (items caps) (items config)) (marksFrom config 0 noMarks) m e
+    module _ (m : Marks) (e : Clean m ≡ checkOf Setting (items caps) config 0) where
+      no-fault : (faultIn Setting (items caps) (items config) .code ≡ 0) × (m ≡ marksFrom config 0 noMarks)
+      no-fault = check-clean Setting (items caps) config 0 m e
 
       storing : Stores config m config noMarks (stored (items config))
       storing = set-stores (items caps) config 0 config (sym e)
 
       pub stores-fit : length caps ≤ 64 → MarksFit config m × (length (markedStore config m config noMarks) ≤ 64)
       stores-fit short =
-          let could = stored-could (items caps) (items config) (eqb-true _ 0 (no-fault .0)) in
+          let could = stored-could (items caps) (items config) (no-fault .0) in
           (storing .fresh, rw (storing .same) (le-trans (could-short caps (stored (items config)) could) short))
 
       pub not-same : sameOctets (markedStore config m config noMarks) config ≡ false
         → false ≡ settingsRight caps kind far config delay
       unfolding settingsRight couldStore
-      not-same f = rw (near, no-fault .0, ← storing .same, f)
+      not-same f = rw (near, eq-eqb _ 0 (no-fault .0), ← storing .same, f)
 
       has-delaying : has 8 (items config) ≡ not (eqb (m .delaying) 0)
       unfolding isMarked markOf categoryOf isStrange noMarks
@@ -70,4 +71,4 @@ module _ (caps : List ℕ) (kind : ℕ) (far : FarSeid) (config : List ℕ) (del
       pub all-kept : sameOctets (markedStore config m config noMarks) config ≡ true
         → not (isReported delay) || (isSource kind && not (eqb (m .delaying) 0)) ≡ settingsRight caps kind far config delay
       unfolding settingsRight couldStore
-      all-kept t = rw (near, no-fault .0, ← storing .same, t, has-delaying)
+      all-kept t = rw (near, eq-eqb _ 0 (no-fault .0), ← storing .same, t, has-delaying)

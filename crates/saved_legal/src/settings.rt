@@ -1,11 +1,12 @@
 // What an endpoint keeps: nothing while it is idle, and else a far SEID, a configuration that could have been stored, and a delay
 // only where one can be reported.
 use elements::marks::none;
-use elements::walks::setting;
+use elements::marks::Marks;
+use elements::walks::check;
+use elements::walks::Walked;
 use rules::Delay;
 use rules::FarSeid;
-use rules::Marks;
-use rules::Walked;
+use rules::Rule;
 use saved_states::far_right;
 
 ghost use mathlib.Core.Path.{_≡_};
@@ -16,7 +17,7 @@ ghost use lib.Dec.{eqb};
 ghost use Rattle.rules.specs.Octets.{sameOctets};
 ghost use Rattle.rules.specs.Book.{isSource};
 ghost use Rattle.rules.specs.Endpoints.{isReported};
-ghost use Rattle.rules.specs.Walks.{noMarks};
+ghost use Rattle.elements.specs.Marks.{noMarks};
 ghost use Rattle.elements_stored.specs.Stores.{markedStore, MarksFit};
 ghost use Rattle.saved_legal.specs.Legal.{settingsRight};
 
@@ -70,9 +71,9 @@ pub fn keeps_settings(caps: &[u8], kind: u8, far: FarSeid, config: &[u8], delay:
     if !far_right(far) {
         return false;
     }
-    let walked = setting(caps, config, 0);
+    let walked = check(Rule::Setting, caps, config, 0);
     match walked {
-        Walked::Fault { category: _, code: _ } => false,
+        Walked::Failed(_) => false,
         Walked::Clean(marks) => {
             if !stores_same(config, marks) {
                 return false;

@@ -43,8 +43,8 @@ array-share-prefix-copy c = copy-room c
 slice-aggregate-old : tie.Need-slice-aggregate-old
 slice-aggregate-old c = sym (length-take-le _ _ (copy-room (c .before)))
 
-setting-requires : tie.Need-setting-requires
-setting-requires c κs = old-short (start-of (c .before .before .before .before) .pre) (old-same c)
+check-requires : tie.Need-check-requires
+check-requires c κs = (old-short (start-of (c .before .before .before .before) .pre) (old-same c), tt)
 
 enum-told : tie.Need-enum-told
 enum-told c = search needs
@@ -57,7 +57,7 @@ keep-requires c κs =
     let clean = c .before .before in
     let checked = clean .before .before in
     renew-keeps (start-of (checked .before .before .before .before .before) .pre) (old-same (checked .before))
-      (sym (checked .setting .ensures) ∙ clean .walked .given .1)
+      (sym (checked .check .ensures) ∙ clean .walked .given .1)
 
 same-length : tie.Need-same-length
 same-length c = search needs
@@ -66,7 +66,7 @@ returns : tie.Need-returns
 returns c =
     let checked = c .before .before in
     never (start-of (checked .before .before .before .before .before) .pre) (old-same (checked .before))
-      (sym (checked .setting .ensures) ∙ c .enum-told .given .1)
+      (sym (checked .check .ensures) ∙ c .enum-told .given .1)
 
 same-length-2 : tie.Need-same-length-2
 same-length-2 c = search needs
@@ -77,7 +77,7 @@ returns-2 c =
     let clean = kept .before .before .before in
     let checked = clean .before .before in
     renew-writes (start-of (checked .before .before .before .before .before) .pre) (old-same (checked .before))
-      (sym (checked .setting .ensures) ∙ clean .walked .given .1) (kept .keep .ensures)
+      (sym (checked .check .ensures) ∙ clean .walked .given .1) (kept .keep .ensures)
 
 pub renew-spec : {M : Type 1} → statement M
 renew-spec =
@@ -89,7 +89,7 @@ renew-spec =
     put-requires
     array-share-prefix-copy
     slice-aggregate-old
-    setting-requires
+    check-requires
     enum-told
     enum-known-walked
     keep-requires

@@ -9,11 +9,11 @@ use lib.ListN.{take, drop}
 use borrow.Author.Needs.{needs}
 use borrow.Author.Tests.{not-true, not-false}
 use Rattle.rules.specs.Elements.{items}
-use Rattle.rules.specs.Walks.{noMarks, walkOf}
 use Rattle.rules.specs.Endpoints.{isIdle}
 use Rattle.rules.specs.Commands.{isOpen}
 use Rattle.rules.specs.declared.Rule.the-variants.{Reconfiguring}
 use Rattle.octets.specs.Patch.{part}
+use Rattle.elements.specs.Walks.{checkOf}
 use Rattle.commands_set.proofs.Doings.{met}
 use Rattle.commands_set.proofs.Anew.{renews, idle-refused, closed-refused, fault-refused, anew-moves}
 use Rattle.commands_set.proofs.renewals.renew_at.Statement.{statement}
@@ -30,15 +30,15 @@ busy c = sym (c .before .is-idle .ensures) ∙ c .if1 .left
 opened : (c : tie.Else2) → isOpen (c .before .before .before .before .get .result .state) ≡ true
 opened c = sym (c .before .is-open .ensures) ∙ not-false _ (c .if2 .left)
 
-found : (c : tie.After-renewed-elements)
+found : (c : tie.After-check)
   → let args = start-of (c .before .before .before .before .before .before) .args in
-    c .renewed-elements .result
-    ≡ walkOf Reconfiguring (items (take (args .size) (drop (args .from) (args .book .now)))) (args .payload .now) 1 noMarks
+    c .check .result
+    ≡ checkOf Reconfiguring (items (take (args .size) (drop (args .from) (args .book .now)))) (args .payload .now) 1
 unfolding part
 found c =
     let args = start-of (c .before .before .before .before .before .before) .args in
-    c .renewed-elements .ensures
-    ∙ ap (λ (l : List ℕ). walkOf Reconfiguring (items l) (args .payload .now) 1 noMarks) (c .before .part .ensures)
+    c .check .ensures
+    ∙ ap (λ (l : List ℕ). checkOf Reconfiguring (items l) (args .payload .now) 1) (c .before .part .ensures)
 
 get-requires : tie.Need-get-requires
 get-requires c κs = let start = c .before .before .before .before .before in met (start .pre .0) (start .pre .2) .inside
@@ -46,8 +46,8 @@ get-requires c κs = let start = c .before .before .before .before .before in me
 is-idle-requires : tie.Need-is-idle-requires
 is-idle-requires c κs = search needs
 
-rejected-for-requires : tie.Need-rejected-for-requires
-rejected-for-requires c κs = search needs
+refuse-plain-requires : tie.Need-refuse-plain-requires
+refuse-plain-requires c κs = search needs
 
 same-length : tie.Need-same-length
 same-length c = search needs
@@ -61,13 +61,13 @@ returns c =
     let got = idle .before .before in
     let start = start-of got in
     idle-refused (start .pre .0) (start .pre .2) (got .get .ensures) (start .pre .1)
-      (sym (idle .before .is-idle .ensures) ∙ idle .if1 .taken) (c .before .before .rejected-for .ensures)
+      (sym (idle .before .is-idle .ensures) ∙ idle .if1 .taken) (c .before .before .refuse-plain .ensures)
 
 is-open-requires : tie.Need-is-open-requires
 is-open-requires c κs = search needs
 
-rejected-for-requires-2 : tie.Need-rejected-for-requires-2
-rejected-for-requires-2 c κs = search needs
+refuse-plain-requires-2 : tie.Need-refuse-plain-requires-2
+refuse-plain-requires-2 c κs = search needs
 
 same-length-3 : tie.Need-same-length-3
 same-length-3 c = search needs
@@ -82,21 +82,21 @@ returns-2 c =
     let got = past .before .before in
     let start = start-of got in
     closed-refused (start .pre .0) (start .pre .2) (got .get .ensures) (start .pre .1) (busy past)
-      (sym (closed .before .is-open .ensures) ∙ not-true _ (closed .if2 .taken)) (c .before .before .rejected-for2 .ensures)
+      (sym (closed .before .is-open .ensures) ∙ not-true _ (closed .if2 .taken)) (c .before .before .refuse-plain2 .ensures)
 
 part-requires : tie.Need-part-requires
 part-requires c κs =
     let start = start-of (c .before .before .before .before) in
     met (start .pre .0) (start .pre .2) .placed .inside
 
-renewed-elements-requires : tie.Need-renewed-elements-requires
-renewed-elements-requires c κs = search needs
+check-requires : tie.Need-check-requires
+check-requires c κs = search needs
 
 enum-known-walked : tie.Need-enum-known-walked
 enum-known-walked c = search needs
 
-rejected-for-requires-3 : tie.Need-rejected-for-requires-3
-rejected-for-requires-3 c κs =
+refuse-requires : tie.Need-refuse-requires
+refuse-requires c κs =
     let start = start-of (c .before .before .before .before .before .before .before .before .before .before) in
     le-trans (lit≤ tt) (start .pre .0 .room)
 
@@ -131,7 +131,7 @@ returns-3 c =
     let got = past .before .before .before .before in
     let start = start-of got in
     fault-refused (start .pre .0) (start .pre .2) (got .get .ensures) (start .pre .1) (busy (past .before .before)) (opened past)
-      (sym (found checked) ∙ fault .walked .given .1) (c .before .before .rejected-for3 .ensures)
+      (sym (found checked) ∙ fault .walked .given .1) (c .before .before .refuse .ensures)
 
 same-length-7 : tie.Need-same-length-7
 same-length-7 c = search needs
@@ -153,19 +153,19 @@ renew-at-spec =
     (tie.spec
     get-requires
     is-idle-requires
-    rejected-for-requires
+    refuse-plain-requires
     same-length
     same-length-2
     returns
     is-open-requires
-    rejected-for-requires-2
+    refuse-plain-requires-2
     same-length-3
     same-length-4
     returns-2
     part-requires
-    renewed-elements-requires
+    check-requires
     enum-known-walked
-    rejected-for-requires-3
+    refuse-requires
     enum-known-walked-2
     renew-requires
     accepted-requires

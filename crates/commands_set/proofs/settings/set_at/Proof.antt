@@ -7,10 +7,11 @@ use lib.ListN.{take, drop, getD}
 use borrow.Author.Needs.{needs}
 use borrow.Author.Tests.{not-true, not-false}
 use Rattle.rules.specs.Elements.{items}
-use Rattle.rules.specs.Walks.{settingOf}
 use Rattle.rules.specs.Endpoints.{isIdle, farRight}
 use Rattle.rules.specs.Commands.{farIn}
+use Rattle.rules.specs.declared.Rule.the-variants.{Setting}
 use Rattle.octets.specs.Patch.{part}
+use Rattle.elements.specs.Walks.{checkOf}
 use Rattle.commands_set.proofs.Doings.{met}
 use Rattle.commands_set.proofs.Sets.{set-keeps, busy-refused, far-refused, fault-refused, set-moves}
 use Rattle.commands_set.proofs.settings.set_at.Statement.{statement}
@@ -29,13 +30,13 @@ right : (c : tie.Else2)
 unfolding farIn
 right c = sym (c .before .far-right .ensures) ∙ not-false _ (c .if2 .left)
 
-found : (c : tie.After-set-elements)
+found : (c : tie.After-check)
   → let args = start-of (c .before .before .before .before .before .before .before) .args in
-    c .set-elements .result ≡ settingOf (items (take (args .size) (drop (args .from) (args .book .now)))) (args .payload .now) 2
+    c .check .result ≡ checkOf Setting (items (take (args .size) (drop (args .from) (args .book .now)))) (args .payload .now) 2
 unfolding part
 found c =
     let args = start-of (c .before .before .before .before .before .before .before) .args in
-    c .set-elements .ensures ∙ ap (λ (l : List ℕ). settingOf (items l) (args .payload .now) 2) (c .before .part .ensures)
+    c .check .ensures ∙ ap (λ (l : List ℕ). checkOf Setting (items l) (args .payload .now) 2) (c .before .part .ensures)
 
 get-requires : tie.Need-get-requires
 get-requires c κs = let start = c .before .before .before .before .before in met (start .pre .0) (start .pre .2) .inside
@@ -43,8 +44,8 @@ get-requires c κs = let start = c .before .before .before .before .before in me
 is-idle-requires : tie.Need-is-idle-requires
 is-idle-requires c κs = search needs
 
-rejected-for-requires : tie.Need-rejected-for-requires
-rejected-for-requires c κs = search needs
+refuse-plain-requires : tie.Need-refuse-plain-requires
+refuse-plain-requires c κs = search needs
 
 same-length : tie.Need-same-length
 same-length c = search needs
@@ -58,16 +59,16 @@ returns c =
     let got = busy .before .before in
     let start = start-of got in
     busy-refused (start .pre .0) (start .pre .2) (start .pre .1) (got .get .ensures)
-      (sym (busy .before .is-idle .ensures) ∙ not-true _ (busy .if1 .taken)) (c .before .before .rejected-for .ensures)
+      (sym (busy .before .is-idle .ensures) ∙ not-true _ (busy .if1 .taken)) (c .before .before .refuse-plain .ensures)
 
-shared-slice-read-t22 : tie.Need-shared-slice-read-t22
-shared-slice-read-t22 c = search needs
+shared-slice-read-t21 : tie.Need-shared-slice-read-t21
+shared-slice-read-t21 c = search needs
 
 far-right-requires : tie.Need-far-right-requires
 far-right-requires c κs = search needs
 
-rejected-for-requires-2 : tie.Need-rejected-for-requires-2
-rejected-for-requires-2 c κs = search needs
+refuse-plain-requires-2 : tie.Need-refuse-plain-requires-2
+refuse-plain-requires-2 c κs = search needs
 
 same-length-3 : tie.Need-same-length-3
 same-length-3 c = search needs
@@ -83,21 +84,21 @@ returns-2 c =
     let got = idle .before .before in
     let start = start-of got in
     far-refused (start .pre .0) (start .pre .2) (start .pre .1) (got .get .ensures) (free idle)
-      (sym (wrong .before .far-right .ensures) ∙ not-true _ (wrong .if2 .taken)) (c .before .before .rejected-for2 .ensures)
+      (sym (wrong .before .far-right .ensures) ∙ not-true _ (wrong .if2 .taken)) (c .before .before .refuse-plain2 .ensures)
 
 part-requires : tie.Need-part-requires
 part-requires c κs =
     let start = start-of (c .before .before .before .before .before) in
     met (start .pre .0) (start .pre .2) .placed .inside
 
-set-elements-requires : tie.Need-set-elements-requires
-set-elements-requires c κs = search needs
+check-requires : tie.Need-check-requires
+check-requires c κs = search needs
 
 enum-known-walked : tie.Need-enum-known-walked
 enum-known-walked c = search needs
 
-rejected-for-requires-3 : tie.Need-rejected-for-requires-3
-rejected-for-requires-3 c κs = search needs
+refuse-requires : tie.Need-refuse-requires
+refuse-requires c κs = search needs
 
 enum-known-walked-2 : tie.Need-enum-known-walked-2
 enum-known-walked-2 c = search needs
@@ -133,7 +134,7 @@ returns-3 c =
     let got = past .before .before .before .before .before in
     let start = start-of got in
     fault-refused (start .pre .0) (start .pre .2) (start .pre .1) (got .get .ensures) (free (past .before .before .before))
-      (right past) (sym (found checked) ∙ fault .walked .given .1) (c .before .before .rejected-for3 .ensures)
+      (right past) (sym (found checked) ∙ fault .walked .given .1) (c .before .before .refuse .ensures)
 
 same-length-7 : tie.Need-same-length-7
 same-length-7 c = search needs
@@ -158,20 +159,20 @@ set-at-spec =
     (tie.spec
     get-requires
     is-idle-requires
-    rejected-for-requires
+    refuse-plain-requires
     same-length
     same-length-2
     returns
-    shared-slice-read-t22
+    shared-slice-read-t21
     far-right-requires
-    rejected-for-requires-2
+    refuse-plain-requires-2
     same-length-3
     same-length-4
     returns-2
     part-requires
-    set-elements-requires
+    check-requires
     enum-known-walked
-    rejected-for-requires-3
+    refuse-requires
     enum-known-walked-2
     settled-requires
     none-requires

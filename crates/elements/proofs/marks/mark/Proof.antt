@@ -1,7 +1,7 @@
 -- `mark` meets its contract: each arm is the mark of the category that its number stands for.
 use mathlib.Core.Path.{sym, ap}
 use Rattle.rules.specs.Elements.{categoryOf}
-use Rattle.rules.specs.Walks.{markOf}
+use Rattle.elements.specs.Marks.{markOf}
 use Rattle.elements.proofs.Categories.{at-key, other-strange}
 use Rattle.elements.proofs.marks.mark.Statement.{statement}
 use Rattle.elements.proofs.marks.mark.Tie as tie

@@ -1,6 +1,6 @@
 -- `none` meets its contract: the marks that it gives are those of `noMarks`, field by field.
 use mathlib.Core.Path.{refl}
-use Rattle.rules.specs.Walks.{noMarks}
+use Rattle.elements.specs.Marks.{noMarks}
 use Rattle.elements.proofs.marks.none.Statement.{statement}
 use Rattle.elements.proofs.marks.none.Tie as tie
 

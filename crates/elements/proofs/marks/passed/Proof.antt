@@ -1,5 +1,5 @@
 -- `passed` meets its contract: each arm sets the one mark that the category's number stands for, and the last arm sets none.
-use Rattle.rules.specs.Walks.{marked}
+use Rattle.elements.specs.Marks.{marked}
 use Rattle.elements.proofs.Passing.{pass-key, pass-other}
 use Rattle.elements.proofs.marks.passed.Statement.{statement}
 use Rattle.elements.proofs.marks.passed.Tie as tie

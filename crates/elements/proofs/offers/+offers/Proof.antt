@@ -12,33 +12,33 @@ use borrow.Fn.Kinds.{In}
 use borrow.Fn.PlainCycle.{Measures, is, falls, and}
 use Rattle.rules.specs.Octets.{some-of}
 use Rattle.rules.specs.Elements.{items, categoryOf, valueWithin, offersIn, offered}
-use Rattle.rules.specs.Walks.{headAt, itemsBy}
-use Rattle.rules.specs.declared.Head.{Head}
-use Rattle.rules.specs.declared.Head.the-variants.{End, Short, Whole}
+use Rattle.elements_reader.specs.Standing.{elementAt, itemsBy}
+use Rattle.elements_reader.specs.declared.Element.{Element}
+use Rattle.elements_reader.specs.declared.Element.the-variants.{End, Short, Whole}
 use Rattle.octets.specs.Patch.{part}
-use Rattle.elements.proofs.Standing.{stands-whole, items-by}
+use Rattle.elements_reader.proofs.Stands.{stands-whole, items-by}
 use Rattle.elements.proofs.offers.offers.Reads as offers
 use Rattle.elements.proofs.offers.offers.Kinds as offers-kinds
 use Rattle.elements.proofs.offers.+offers.Lts-offers as offers-lts
-use Rattle.elements.proofs.heads.look.Reads as look-reads
+use Rattle.elements_reader.proofs.element_at.Reads as element-at-reads
 use Rattle.elements.proofs.offers.value_within.Reads as value-within-reads
 use Rattle.octets.proofs.part.Reads as part-reads
 use Rattle.elements.proofs.offers.+offers.{statement}
 use Rattle.elements.proofs.offers.+offers.Tie.{close}
 
 module _ (l : List ℕ) (at c : ℕ) (v : List ℕ) where
-  offered-by : {h : Head} → h ≡ headAt l at → offered (itemsBy h l) c v ≡ offered (items (drop at l)) c v
+  offered-by : {h : Element} → h ≡ elementAt l at → offered (itemsBy h l) c v ≡ offered (items (drop at l)) c v
   offered-by e = ap (λ h. offered (itemsBy h l) c v) e ∙ ap (λ is. offered is c v) (sym (items-by l at))
 
-  offered-end : End ≡ headAt l at → false ≡ offered (items (drop at l)) c v
+  offered-end : End ≡ elementAt l at → false ≡ offered (items (drop at l)) c v
   unfolding offered some-of itemsBy
   offered-end e = offered-by e
 
-  offered-short : (d : ℕ) → Short d ≡ headAt l at → false ≡ offered (items (drop at l)) c v
+  offered-short : (d : ℕ) → Short d ≡ elementAt l at → false ≡ offered (items (drop at l)) c v
   unfolding offered some-of itemsBy offersIn
   offered-short d e = offered-by e
 
-  module _ (d n first : ℕ) (e : Whole d n first ≡ headAt l at) where
+  module _ (d n first : ℕ) (e : Whole d n first ≡ elementAt l at) where
     offered-here : d ≡ c → true ≡ valueWithin (categoryOf c) v (part first n l) → true ≡ offered (items (drop at l)) c v
     unfolding offered some-of itemsBy offersIn part
     offered-here p q = (rw (eq-eqb c d (sym p), ← q)) ∙ offered-by e
@@ -63,8 +63,8 @@ offers-below t = and 2 offers-kinds.ps (falls 2 offers-kinds.ps _<_ μ-offers t)
 
 pub +offers-spec : {M : Type 1} → statement M
 +offers-spec = close μ-offers λ t. offers-lts.spec (
-  look-reads.Asked,
-  look-reads.Learnt,
+  element-at-reads.Asked,
+  element-at-reads.Learnt,
   part-reads.Asked,
   part-reads.Learnt,
   value-within-reads.Asked,
@@ -74,7 +74,7 @@ pub +offers-spec : {M : Type 1} → statement M
 )
     (offers-at t)
     offers.Post
-    -- what `look` requires
+    -- what `element_at` requires
     (λ c κs. tt)
     -- the first arm
     (λ c. c .match .keys1)
@@ -87,7 +87,7 @@ pub +offers-spec : {M : Type 1} → statement M
       let place = c .before .before in
       let looked = place .before .before in
       let args = looked .before .before .before .args in
-      stands-whole (args .caps .now) (args .at) _ _ _ (sym (place .head .given .1) ∙ looked .look .ensures) .3)
+      stands-whole (args .caps .now) (args .at) _ _ _ (sym (place .element .given .1) ∙ looked .element-at .ensures) .3)
     -- what `value_within` requires
     (λ c κs. tt)
     -- within the first
@@ -97,7 +97,7 @@ pub +offers-spec : {M : Type 1} → statement M
       let looked = place .before .before in
       let args = looked .before .before .before .args in
       offered-here (args .caps .now) (args .at) (args .category) (args .value .now) _ _ _
-        (sym (place .head .given .1) ∙ looked .look .ensures) (at-part .before .if1 .taken)
+        (sym (place .element .given .1) ∙ looked .element-at .ensures) (at-part .before .if1 .taken)
         (sym (c .if2 .taken) ∙ c .before .value-within .ensures
          ∙ ap (valueWithin (categoryOf (args .category)) (args .value .now)) (at-part .part .ensures)))
     -- the next place fits
@@ -105,32 +105,32 @@ pub +offers-spec : {M : Type 1} → statement M
       let place = c .before .before in
       let looked = place .before .before in
       let args = looked .before .before .before .args in
-      omega (arith, stands-whole (args .caps .now) (args .at) _ _ _ (sym (place .head .given .1) ∙ looked .look .ensures) .3))
+      omega (arith, stands-whole (args .caps .now) (args .at) _ _ _ (sym (place .element .given .1) ∙ looked .element-at .ensures) .3))
     -- the measure falls
     (λ c κs.
       let place = c .before .before in
       let looked = place .before .before in
       let args = looked .before .before .before .args in
-      let there = stands-whole (args .caps .now) (args .at) _ _ _ (sym (place .head .given .1) ∙ looked .look .ensures) in
+      let there = stands-whole (args .caps .now) (args .at) _ _ _ (sym (place .element .given .1) ∙ looked .element-at .ensures) in
       (omega arith, tt))
     -- nothing more
     (λ c.
       let looked = c .before .before in
       let args = looked .before .before .before .args in
       offered-end (args .caps .now) (args .at) (args .category) (args .value .now)
-        (sym (c .enum-told .given .1) ∙ looked .look .ensures))
+        (sym (c .enum-told .given .1) ∙ looked .element-at .ensures))
     -- an element cut short
     (λ c.
       let looked = c .before .before in
       let args = looked .before .before .before .args in
       offered-short (args .caps .now) (args .at) (args .category) (args .value .now) _
-        (sym (c .enum-told2 .given .1) ∙ looked .look .ensures))
+        (sym (c .enum-told2 .given .1) ∙ looked .element-at .ensures))
     -- the rest decides
     (λ c.
       let place = c .before .before .before in
       let looked = place .before .before in
       let args = looked .before .before .before .args in
-      let there = sym (place .head .given .1) ∙ looked .look .ensures in
+      let there = sym (place .element .given .1) ∙ looked .element-at .ensures in
       c .offers .ensures
       ∙ ⊎-elim
           (λ w.

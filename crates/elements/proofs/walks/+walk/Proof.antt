@@ -7,18 +7,19 @@ use lib.ListN.{length}
 use borrow.Fn.Kinds.{In}
 use borrow.Fn.PlainCycle.{Measures, is, falls, and}
 use Rattle.rules.specs.Elements.{items}
-use Rattle.rules.specs.Walks.{walkOf}
-use Rattle.rules.specs.declared.Walked.the-variants.{Fault as Failed}
-use Rattle.elements.specs.Asks.{LastMarked}
-use Rattle.elements.proofs.Standing.{stands-whole}
+use Rattle.elements.specs.declared.walks.Walked.the-variants.{Failed}
+use Rattle.elements.specs.Marks.{LastMarked}
+use Rattle.elements.specs.Walks.{walkOf}
+use Rattle.elements_reader.proofs.Stands.{stands-whole}
 use Rattle.elements.proofs.Judging.{walk-end, walk-short, walk-fault, walk-last, walk-on}
 use Rattle.elements.proofs.walks.walk.Reads as walk
 use Rattle.elements.proofs.walks.walk.Kinds as walk-kinds
 use Rattle.elements.proofs.walks.+walk.Lts-walk as walk-lts
-use Rattle.elements.proofs.heads.look.Reads as look-reads
+use Rattle.elements_reader.proofs.element_at.Reads as element-at-reads
 use Rattle.elements.proofs.marks.passed.Reads as passed-reads
-use Rattle.elements.proofs.walks.judged.Reads as judged-reads
-use Rattle.elements.proofs.walks.short_code.Reads as short-code-reads
+use Rattle.elements.proofs.walks.ended.Reads as ended-reads
+use Rattle.elements.proofs.judges.judged.Reads as judged-reads
+use Rattle.elements.proofs.judges.short_code.Reads as short-code-reads
 use Rattle.octets.proofs.part.Reads as part-reads
 use Rattle.elements.proofs.walks.+walk.{statement}
 use Rattle.elements.proofs.walks.+walk.Tie.{close}
@@ -34,8 +35,10 @@ walk-below t = and 2 walk-kinds.ps (falls 2 walk-kinds.ps _<_ μ-walk t) walk.Pr
 
 pub +walk-spec : {M : Type 1} → statement M
 +walk-spec = close μ-walk λ t. walk-lts.spec (
-  look-reads.Asked,
-  look-reads.Learnt,
+  element-at-reads.Asked,
+  element-at-reads.Learnt,
+  ended-reads.Asked,
+  ended-reads.Learnt,
   short-code-reads.Asked,
   short-code-reads.Learnt,
   part-reads.Asked,
@@ -49,10 +52,12 @@ pub +walk-spec : {M : Type 1} → statement M
 )
     (walk-at t)
     walk.Post
-    -- what `look` requires
+    -- what `element_at` requires
     (λ c κs. tt)
     -- the first arm
     (λ c. c .match .keys1)
+    -- what `ended` requires
+    (λ c κs. c .before .before .before .before .before .pre .1 .2)
     -- the second arm
     (λ c. c .match .keys2)
     -- what `short_code` requires
@@ -64,7 +69,7 @@ pub +walk-spec : {M : Type 1} → statement M
       let place = c .before in
       let looked = place .before .before in
       let args = looked .before .before .before .args in
-      stands-whole (args .list .now) (args .at) _ _ _ (sym (place .head2 .given .1) ∙ looked .look .ensures) .3)
+      stands-whole (args .list .now) (args .at) _ _ _ (sym (place .element2 .given .1) ∙ looked .element-at .ensures) .3)
     -- what `judged` requires
     (λ c κs.
       let start = c .before .before .before .before .before .before .before in
@@ -76,14 +81,14 @@ pub +walk-spec : {M : Type 1} → statement M
       let looked = place .before .before in
       let args = looked .before .before .before .args in
       walk-fault (args .rule) (items (args .caps .now)) (args .list .now) (args .at) (args .marks) _ _ _
-        (sym (place .head2 .given .1) ∙ looked .look .ensures) _ (judged .before .part .ensures)
+        (sym (place .element2 .given .1) ∙ looked .element-at .ensures) _ (judged .before .part .ensures)
         (judged .judged .result) (judged .judged .ensures) (c .if1 .taken))
     -- the next place fits
     (λ c.
       let place = c .before .before .before .before in
       let looked = place .before .before in
       let args = looked .before .before .before .args in
-      omega (arith, stands-whole (args .list .now) (args .at) _ _ _ (sym (place .head2 .given .1) ∙ looked .look .ensures) .3))
+      omega (arith, stands-whole (args .list .now) (args .at) _ _ _ (sym (place .element2 .given .1) ∙ looked .element-at .ensures) .3))
     -- the place of the value fits
     (λ c.
       let place = c .before .before .before .before in
@@ -91,7 +96,7 @@ pub +walk-spec : {M : Type 1} → statement M
       let start = looked .before .before .before in
       let args = start .args in
       omega (arith, start .pre .1 .0,
-        stands-whole (args .list .now) (args .at) _ _ _ (sym (place .head2 .given .1) ∙ looked .look .ensures) .3))
+        stands-whole (args .list .now) (args .at) _ _ _ (sym (place .element2 .given .1) ∙ looked .element-at .ensures) .3))
     -- what `passed` requires
     (λ c κs. tt)
     -- the measure falls, and the marks are those of a walk
@@ -101,7 +106,7 @@ pub +walk-spec : {M : Type 1} → statement M
       let looked = place .before .before in
       let start = looked .before .before .before in
       let args = start .args in
-      let here = sym (place .head2 .given .1) ∙ looked .look .ensures in
+      let here = sym (place .element2 .given .1) ∙ looked .element-at .ensures in
       let there = stands-whole (args .list .now) (args .at) _ _ _ here in
       let last = walk-last (args .rule) (items (args .caps .now)) (args .list .now) (args .at) (args .marks) _ _ _ here _
             (judged .before .part .ensures) (judged .judged .result) (judged .judged .ensures) (c .before .if1 .left) in
@@ -109,18 +114,20 @@ pub +walk-spec : {M : Type 1} → statement M
         (start .pre .1 .0, start .pre .1 .1, subst LastMarked (sym (c .passed .ensures)) last)))
     -- nothing more
     (λ c.
-      let looked = c .before .before in
+      let place = c .before in
+      let looked = place .before .before in
       let args = looked .before .before .before .args in
-      walk-end (args .rule) (items (args .caps .now)) (args .list .now) (args .at) (args .marks)
-        (sym (c .enum-told .given .1) ∙ looked .look .ensures))
+      c .ended .ensures
+      ∙ walk-end (args .rule) (items (args .caps .now)) (args .list .now) (args .at) (args .marks)
+          (sym (place .enum-told .given .1) ∙ looked .element-at .ensures))
     -- an element cut short
     (λ c.
       let place = c .before .before in
       let looked = place .before .before in
       let args = looked .before .before .before .args in
-      ap (Failed (place .head .given .0 .0)) (c .short-code .ensures)
+      ap (λ (n : ℕ). Failed (record { category = place .element .given .0 .0; code = n })) (c .short-code .ensures)
       ∙ walk-short (args .rule) (items (args .caps .now)) (args .list .now) (args .at) (args .marks) _
-          (sym (place .head .given .1) ∙ looked .look .ensures))
+          (sym (place .element .given .1) ∙ looked .element-at .ensures))
     -- the rest decides
     (λ c.
       let judged = c .before .before .before in
@@ -131,5 +138,5 @@ pub +walk-spec : {M : Type 1} → statement M
       c .walk .ensures
       ∙ ap (walkOf (args .rule) (items (args .caps .now)) (args .list .now) _) (c .before .passed .ensures)
       ∙ walk-on (args .rule) (items (args .caps .now)) (args .list .now) (args .at) (args .marks) _ _ _
-          (sym (place .head2 .given .1) ∙ looked .look .ensures) _ (judged .before .part .ensures)
+          (sym (place .element2 .given .1) ∙ looked .element-at .ensures) _ (judged .before .part .ensures)
           (judged .judged .result) (judged .judged .ensures) (c .before .before .if1 .left) (start .pre .1 .2))

@@ -1,85 +1,62 @@
--- `list_right` meets its contract: a list with a failure is not right, and of one without the marks tell whether 1 and 7 are
--- there.
+-- `list_right` meets its contract: a list is right where the check by the rule of an entry's list finds no failure.
 use borrow.Author.Needs.{needs}
 use Prim.Native.Nat.{ℕ}
-use mathlib.Core.Path.{_≡_, sym, ap, subst, _∙_}
-use mathlib.Core.List.{List}
-use mathlib.Core.Bool.{false, not}
-use lib.Dec.{eqb}
+use mathlib.Core.Path.{_≡_, sym, ap, _∙_}
+use mathlib.Core.List.{List, []}
+use mathlib.Core.Bool.{true, false}
 use borrow.Author.Tests.{eq-eqb, ne-eqb}
-use Rattle.rules.specs.Elements.{Item, items}
+use Rattle.rules.specs.Elements.{items}
 use Rattle.rules.specs.Book.{listRight}
-use Rattle.rules.specs.Walks.{noMarks, judge, walkOf}
-use Rattle.rules.specs.declared.Marks.{Marks}
 use Rattle.rules.specs.declared.Rule.the-variants.{Offer}
-use Rattle.rules.specs.declared.Walked.the-variants.{Fault as Failed, Clean}
-use Rattle.elements.specs.Asks.{LastMarked}
-use Rattle.elements.proofs.Passing.{none-last}
-use Rattle.elements.proofs.Judging.{walk-failed, walk-clean, walk-has-1, walk-has-7}
+use Rattle.rules.specs.declared.Fault.{Fault}
+use Rattle.rules.proofs.Lists.{items-none}
+use Rattle.octets.specs.Patch.{part}
+use Rattle.elements.specs.Walks.{checkOf}
+use Rattle.elements.specs.declared.marks.Marks.{Marks}
+use Rattle.elements.specs.declared.walks.Walked.{Walked}
+use Rattle.elements.specs.declared.walks.Walked.the-variants.{Failed, Clean}
+use Rattle.elements.proofs.Judging.{check-clean, check-failed}
 use Rattle.elements.proofs.walks.list_right.Statement.{statement}
 use Rattle.elements.proofs.walks.list_right.Tie as tie
 
-module _ (media : ℕ) (caps : List Item) (l : List ℕ) where
-  has-fault : (c code : ℕ) → Failed c code ≡ walkOf (Offer media) caps l 0 noMarks → false ≡ listRight media (items l)
-  unfolding listRight judge
-  has-fault c code e = rw (walk-failed (Offer media) caps l 0 c code e)
+module _ (media : ℕ) (l : List ℕ) {caps : List ℕ} {w : Walked} (none : caps ≡ part 0 0 l)
+    (checked : w ≡ checkOf (Offer media) (items caps) l 0) where
+  -- an entry's list takes no offer
+  told : w ≡ checkOf (Offer media) [] l 0
+  unfolding part
+  told = checked ∙ ap (λ is. checkOf (Offer media) is l 0) (ap (λ (o : List ℕ). items o) none ∙ items-none)
 
-  module _ (m : Marks) (e : Clean m ≡ walkOf (Offer media) caps l 0 noMarks) where
-    lacks-1 : m .transport ≡ 0 → false ≡ listRight media (items l)
-    unfolding listRight judge
-    lacks-1 z =
-        rw (walk-clean (Offer media) caps l 0 m e .0, walk-has-1 (Offer media) caps l 0 m e, eq-eqb (m .transport) 0 z)
+  fails : {f : Fault} → w ≡ Failed f → false ≡ listRight media (items l)
+  unfolding listRight
+  fails {f} e = sym (ne-eqb _ 0 (check-failed (Offer media) [] l 0 f (sym e ∙ told) .0))
 
-    has-both : (m .transport ≡ 0 → ⊥) → not (eqb (m .codec) 0) ≡ listRight media (items l)
-    unfolding listRight judge
-    has-both f =
-        rw (walk-clean (Offer media) caps l 0 m e .0, walk-has-1 (Offer media) caps l 0 m e, ne-eqb (m .transport) 0 f,
-          walk-has-7 (Offer media) caps l 0 m e)
+  passes : {m : Marks} → w ≡ Clean m → true ≡ listRight media (items l)
+  unfolding listRight
+  passes {m} e = sym (eq-eqb _ 0 (check-clean (Offer media) [] l 0 m (sym e ∙ told) .0))
 
-none-requires : tie.Need-none-requires
-none-requires c κs = search needs
+part-requires : tie.Need-part-requires
+part-requires c κs = search needs
 
-walk-requires : tie.Need-walk-requires
-walk-requires c κs =
-    let start = c .before .before in
-    (start .pre .0, start .pre .1, subst LastMarked (sym (c .none .ensures)) none-last)
+check-requires : tie.Need-check-requires
+check-requires c κs = search needs
 
 enum-told : tie.Need-enum-told
 enum-told c = search needs
 
-enum-known-walked : tie.Need-enum-known-walked
-enum-known-walked c = search needs
-
--- the walk, from no marks
-walk-told : (c : tie.After-walk)
-  → let args = c .before .before .before .args in
-    c .walk .result ≡ walkOf (Offer (args .media)) (items (args .list .now)) (args .list .now) 0 noMarks
-walk-told c =
-    let args = c .before .before .before .args in
-    c .walk .ensures ∙ ap (walkOf (Offer (args .media)) (items (args .list .now)) (args .list .now) 0) (c .before .none .ensures)
+enum-told-2 : tie.Need-enum-told-2
+enum-told-2 c = search needs
 
 returns : tie.Need-returns
 returns c =
-    let clean = c .before .before .before in
-    let walked = clean .before .before in
-    let args = walked .before .before .before .args in
-    lacks-1 (args .media) (items (args .list .now)) (args .list .now) _ (sym (clean .walked .given .1) ∙ walk-told walked)
-      (c .if1 .taken)
+    let checked = c .before .before in
+    let args = checked .before .before .before .args in
+    fails (args .media) (args .list .now) (checked .before .part .ensures) (checked .check .ensures) (c .enum-told .given .1)
 
 returns-2 : tie.Need-returns-2
 returns-2 c =
-    let walked = c .before .before in
-    let args = walked .before .before .before .args in
-    has-fault (args .media) (items (args .list .now)) (args .list .now) _ _ (sym (c .enum-told .given .1) ∙ walk-told walked)
-
-returns-3 : tie.Need-returns-3
-returns-3 c =
-    let clean = c .before .before .before .before in
-    let walked = clean .before .before in
-    let args = walked .before .before .before .args in
-    has-both (args .media) (items (args .list .now)) (args .list .now) _ (sym (clean .walked .given .1) ∙ walk-told walked)
-      (c .before .if1 .left)
+    let checked = c .before .before in
+    let args = checked .before .before .before .args in
+    passes (args .media) (args .list .now) (checked .before .part .ensures) (checked .check .ensures) (c .enum-told2 .given .1)
 
 pub list-right-spec : {M : Type 1} → statement M
-list-right-spec =
-    tie.close (tie.spec none-requires walk-requires enum-told enum-known-walked returns returns-2 returns-3)
+list-right-spec = tie.close (tie.spec part-requires check-requires enum-told enum-told-2 returns returns-2)

@@ -5,7 +5,7 @@ use mathlib.Core.List.{List, _++_, append-assoc}
 use native.Mathlib.Omega.{arith}
 use borrow.Author.Needs.{needs}
 use lib.ListN.{length, length-append}
-use Rattle.rules.specs.declared.Marks.{Marks}
+use Rattle.elements.specs.declared.marks.Marks.{Marks}
 use Rattle.octets.specs.Patch.{patch}
 use Rattle.elements_stored.specs.Stores.{eitherPick, markedStore}
 use Rattle.elements_stored.proofs.Writes.{Wrote, wrote-further}

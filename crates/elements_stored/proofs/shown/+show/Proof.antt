@@ -12,18 +12,18 @@ use lib.ListN.{length, take, drop, getD, length-drop}
 use lib.Seq.{drop-cons, length-take-le}
 use Rattle.rules.specs.Elements.{Item, whole, items, element}
 use Rattle.rules.specs.Book.{written, upToCodec}
-use Rattle.rules.specs.Walks.{headAt, itemsBy}
-use Rattle.rules.specs.declared.Head.{Head}
-use Rattle.rules.specs.declared.Head.the-variants.{End, Short, Whole}
 use Rattle.rules.proofs.Lists.{shown-length}
 use Rattle.octets.specs.Patch.{patch, part}
 use Rattle.octets.proofs.Patches.{part-length}
-use Rattle.elements.proofs.Standing.{Stands, stands, items-by}
+use Rattle.elements_reader.specs.Standing.{elementAt, itemsBy}
+use Rattle.elements_reader.specs.declared.Element.{Element}
+use Rattle.elements_reader.specs.declared.Element.the-variants.{End, Short, Whole}
+use Rattle.elements_reader.proofs.Stands.{Stands, stands, items-by}
 use Rattle.elements_stored.proofs.Writes.{Wrote, wrote-none, wrote-as, wrote-further}
 use Rattle.elements_stored.proofs.shown.show.Reads as show
 use Rattle.elements_stored.proofs.shown.show.Kinds as show-kinds
 use Rattle.elements_stored.proofs.shown.+show.Lts-show as show-lts
-use Rattle.elements.proofs.heads.look.Reads as look-reads
+use Rattle.elements_reader.proofs.element_at.Reads as element-at-reads
 use Rattle.octets.proofs.part.Reads as part-reads
 use Rattle.octets.proofs.put.Reads as put-reads
 use Rattle.elements_stored.proofs.shown.+show.{statement}
@@ -33,15 +33,15 @@ use Rattle.elements_stored.proofs.shown.+show.Tie.{close}
 abbrev shown : List ℕ → ℕ → List ℕ
 shown l at = written (upToCodec (items (drop at l)))
 
-end-shown : (l : List ℕ) (at : ℕ) {h : Head} → h ≡ headAt l at → h ≡ End → shown l at ≡ []
+end-shown : (l : List ℕ) (at : ℕ) {h : Element} → h ≡ elementAt l at → h ≡ End → shown l at ≡ []
 unfolding written upToCodec itemsBy
 end-shown l at p q =
-    ap (λ (is : List Item). written (upToCodec is)) (items-by l at ∙ ap (λ (h : Head). itemsBy h l) (sym p ∙ q))
+    ap (λ (is : List Item). written (upToCodec is)) (items-by l at ∙ ap (λ (h : Element). itemsBy h l) (sym p ∙ q))
 
-short-shown : (l : List ℕ) (at : ℕ) {h : Head} {c : ℕ} → h ≡ headAt l at → h ≡ Short c → shown l at ≡ []
+short-shown : (l : List ℕ) (at : ℕ) {h : Element} {c : ℕ} → h ≡ elementAt l at → h ≡ Short c → shown l at ≡ []
 unfolding written upToCodec itemsBy
 short-shown l at p q =
-    ap (λ (is : List Item). written (upToCodec is)) (items-by l at ∙ ap (λ (h : Head). itemsBy h l) (sym p ∙ q))
+    ap (λ (is : List Item). written (upToCodec is)) (items-by l at ∙ ap (λ (h : Element). itemsBy h l) (sym p ∙ q))
 
 -- a whole element stands there
 element-there : (l : List ℕ) (at c n first : ℕ) → c ≡ getD l at 0 → n ≡ getD l (at + 1) 0 → first ≡ at + 2 → first + n ≤ length l
@@ -63,7 +63,7 @@ record There (l : List ℕ) (at c n first : ℕ) : Type 0 where
   octets : part at (n + 2) l ≡ element c (take n (drop first l))
   behind : items (drop at l) ≡ whole c (take n (drop first l)) ∷ items (drop (first + n) l)
 
-there : (l : List ℕ) (at : ℕ) {c n first : ℕ} {h : Head} → h ≡ headAt l at → h ≡ Whole c n first → There l at c n first
+there : (l : List ℕ) (at : ℕ) {c n first : ℕ} {h : Element} → h ≡ elementAt l at → h ≡ Whole c n first → There l at c n first
 unfolding itemsBy
 there l at {c} {n} {first} p q =
     let s : Stands l at (Whole c n first) = subst (Stands l at) (sym p ∙ q) (stands l at) in
@@ -71,7 +71,7 @@ there l at {c} {n} {first} p q =
       next = s .2;
       fits = s .3;
       octets = element-there l at c n first (s .0) (s .1) (s .2) (s .3);
-      behind = items-by l at ∙ ap (λ (h : Head). itemsBy h l) (sym p ∙ q)
+      behind = items-by l at ∙ ap (λ (h : Element). itemsBy h l) (sym p ∙ q)
     }
 
 module _ {l : List ℕ} {at c n first : ℕ} (h : There l at c n first) (to : ℕ) (a : List ℕ)
@@ -113,9 +113,9 @@ show-below t = and 2 show-kinds.ps (falls 2 show-kinds.ps _<_ μ-show t) show.Pr
 
 -- the place in the code where a whole element was found
 abbrev Found : ℕ → Type 0
-Found t = show-lts.After-head (
-  look-reads.Asked,
-  look-reads.Learnt,
+Found t = show-lts.After-element (
+  element-at-reads.Asked,
+  element-at-reads.Learnt,
   part-reads.Asked,
   part-reads.Learnt,
   put-reads.Asked,
@@ -127,19 +127,19 @@ Found t = show-lts.After-head (
 abbrev There-at : {t : ℕ} → Found t → Type 0
 There-at c =
     let args = c .before .before .before .before .before .args in
-    let values = c .head .given .0 in
+    let values = c .element .given .0 in
     There (args .list .now) (args .at) (values .0) (values .1 .0) (values .1 .1 .0)
 
 there-at : {t : ℕ} (c : Found t) → There-at c
 there-at c =
     let look = c .before .before in
     let args = look .before .before .before .args in
-    there (args .list .now) (args .at) (look .look .ensures) (c .head .given .1)
+    there (args .list .now) (args .at) (look .element-at .ensures) (c .element .given .1)
 
 abbrev Rooms-at : {t : ℕ} → Found t → Type 0
 Rooms-at c =
     let args = c .before .before .before .before .before .args in
-    let values = c .head .given .0 in
+    let values = c .element .given .0 in
     args .to + values .1 .0 + 2 + length (drop (values .1 .1 .0 + values .1 .0) (args .list .now)) ≤ length (args .area .now)
 
 rooms-at : {t : ℕ} (c : Found t) → Rooms-at c
@@ -149,8 +149,8 @@ rooms-at c =
 
 pub +show-spec : {M : Type 1} → statement M
 +show-spec = close μ-show λ t. show-lts.spec (
-  look-reads.Asked,
-  look-reads.Learnt,
+  element-at-reads.Asked,
+  element-at-reads.Learnt,
   part-reads.Asked,
   part-reads.Learnt,
   put-reads.Asked,
@@ -197,12 +197,12 @@ pub +show-spec : {M : Type 1} → statement M
       let look = c .before .before in
       let args = look .before .before .before .args in
       wrote-none (args .to) _ (args .area .now)
-        (end-shown (args .list .now) (args .at) (look .look .ensures) (c .enum-told .given .1)))
+        (end-shown (args .list .now) (args .at) (look .element-at .ensures) (c .enum-told .given .1)))
     (λ c.
       let look = c .before .before in
       let args = look .before .before .before .args in
       wrote-none (args .to) _ (args .area .now)
-        (short-shown (args .list .now) (args .at) (look .look .ensures) (c .enum-told2 .given .1)))
+        (short-shown (args .list .now) (args .at) (look .element-at .ensures) (c .enum-told2 .given .1)))
     (λ c. c .before .before .show .kept .0 ∙ c .before .before .before .before .before .before .put .kept .0)
     (λ c.
       let shows = c .before .before in

@@ -21,8 +21,8 @@ returns c =
 near : (c : tie.Else1) → farRight (c .before .before .before .before .args .far) ≡ true
 near c = sym (c .before .far-right .ensures) ∙ not-false _ (c .if1 .left)
 
-setting-requires : tie.Need-setting-requires
-setting-requires c κs = search needs
+check-requires : tie.Need-check-requires
+check-requires c κs = search needs
 
 enum-told : tie.Need-enum-told
 enum-told c = search needs
@@ -37,7 +37,7 @@ stores-same-requires c κs =
     let start = walked .before .before .before .before .before in
     let args = start .args in
     stores-fit (args .caps .now) (args .kind) (args .far) (args .config .now) (args .delay) (near (walked .before)) _
-      (sym (clean .walked .given .1) ∙ walked .setting .ensures) (start .pre .0)
+      (sym (clean .walked .given .1) ∙ walked .check .ensures) (start .pre .0)
 
 returns-2 : tie.Need-returns-2
 returns-2 c =
@@ -46,7 +46,7 @@ returns-2 c =
     let walked = clean .before .before in
     let args = walked .before .before .before .before .before .args in
     not-same (args .caps .now) (args .kind) (args .far) (args .config .now) (args .delay) (near (walked .before)) _
-      (sym (clean .walked .given .1) ∙ walked .setting .ensures) (sym (same .stores-same .ensures) ∙ not-true _ (c .if2 .taken))
+      (sym (clean .walked .given .1) ∙ walked .check .ensures) (sym (same .stores-same .ensures) ∙ not-true _ (c .if2 .taken))
 
 delay-right-requires : tie.Need-delay-right-requires
 delay-right-requires c κs = search needs
@@ -55,8 +55,8 @@ returns-3 : tie.Need-returns-3
 returns-3 c =
     let walked = c .before .before in
     let args = walked .before .before .before .before .before .args in
-    has-fault (args .caps .now) (args .kind) (args .far) (args .config .now) (args .delay) (near (walked .before)) _ _
-      (sym (c .enum-told .given .1) ∙ walked .setting .ensures)
+    has-fault (args .caps .now) (args .kind) (args .far) (args .config .now) (args .delay) (near (walked .before)) _
+      (sym (c .enum-told .given .1) ∙ walked .check .ensures)
 
 returns-4 : tie.Need-returns-4
 returns-4 c =
@@ -67,7 +67,7 @@ returns-4 c =
     let args = walked .before .before .before .before .before .args in
     c .delay-right .ensures
     ∙ all-kept (args .caps .now) (args .kind) (args .far) (args .config .now) (args .delay) (near (walked .before)) _
-        (sym (clean .walked .given .1) ∙ walked .setting .ensures)
+        (sym (clean .walked .given .1) ∙ walked .check .ensures)
         (sym (same .stores-same .ensures) ∙ not-false _ (other .if2 .left))
 
 pub keeps-settings-spec : {M : Type 1} → statement M
@@ -76,7 +76,7 @@ keeps-settings-spec =
     (tie.spec
     far-right-requires
     returns
-    setting-requires
+    check-requires
     enum-told
     enum-known-walked
     stores-same-requires

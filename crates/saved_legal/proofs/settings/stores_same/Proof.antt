@@ -5,7 +5,7 @@ use native.Mathlib.Omega.{arith}
 use mathlib.Core.Path.{sym, ap, subst, _∙_}
 use lib.ListN.{length}
 use Rattle.rules.specs.Octets.{sameOctets}
-use Rattle.rules.specs.declared.Marks.{Marks}
+use Rattle.elements.specs.declared.marks.Marks.{Marks}
 use Rattle.elements_stored.specs.Stores.{markedStore, MarksFit}
 use Rattle.elements_stored.proofs.Stores.{none-fit}
 use Rattle.saved_legal.proofs.Keeping.{same-stored}
