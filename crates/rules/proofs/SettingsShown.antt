@@ -8,15 +8,14 @@ use mathlib.Core.Bool.{true, false}
 use lib.ListN.{length}
 use lib.Dec.{eqb, lit≤}
 use borrow.Author.Tests.{eqb-true, eqb-false}
-use Rattle.rules.specs.Octets.{if_then_else_, isEmpty, some-of}
-use Rattle.rules.specs.Elements.{items, has}
-use Rattle.rules.specs.Book.{Entry, Book, listRight, Found, unknown, known, find, bookOf}
+use Rattle.rules.specs.Octets.{if_then_else_, member, isEmpty}
+use Rattle.rules.specs.Elements.{itemsPast, items, faultIn, faultPast, lacking, missing}
+use Rattle.rules.specs.Book.{Entry, Book, mediaType, listRight, Found, unknown, known, find, bookOf}
 use Rattle.rules.specs.Endpoints.{Endpoint, Ends, endAt, legalEnd, legalEnds}
 use Rattle.rules.specs.Saved.{connectionIn}
 use Rattle.rules.specs.Host.{refusalOf, settingsOf, Shown, shownAt, settingsCall}
 use Rattle.rules.specs.declared.OurSeid.{OurSeid}
 use Rattle.rules.proofs.Tests.{Told?, told, passed, failed, clash, and-l, and-r}
-use Rattle.rules.proofs.Lists.{items-none}
 use Rattle.rules.proofs.RightBook.{entryRight, right-book}
 use Rattle.rules.proofs.Places.{find-known, legal-at}
 use Rattle.rules.proofs.Outcomes.{if-arms}
@@ -25,15 +24,15 @@ use Rattle.rules.proofs.StaysLegal.{legal-ends}
 use Rattle.rules.proofs.SavedStaysRight.{right-legal}
 use Rattle.rules.proofs.Unrefused.{none-refused}
 
--- an entry's list has category 1
-list-there : (n : Entry) → entryRight n ≡ true → has 1 (items (n .caps)) ≡ true
-unfolding entryRight listRight
-list-there n e = search (and-l, and-r) depth 7
+-- an entry's list is not empty: an empty one misses category 1
+caps-there : (media : ℕ) (caps : List ℕ) → listRight media (items caps) ≡ true → isEmpty caps ≡ false
+unfolding listRight faultIn faultPast lacking missing member itemsPast isEmpty
+caps-there media [] e = clash e refl
+caps-there media (x ∷ caps) e = refl
 
-caps-there : (caps : List ℕ) → has 1 (items caps) ≡ true → isEmpty caps ≡ false
-unfolding has some-of isEmpty
-caps-there [] e = clash (rw items-none at e) refl
-caps-there (x ∷ caps) e = refl
+list-there : (n : Entry) → entryRight n ≡ true → isEmpty (n .caps) ≡ false
+unfolding entryRight
+list-there n e = caps-there (mediaType (n .kind)) (n .caps) (search (and-l, and-r) depth 7)
 
 either-there : (caps config : List ℕ) → isEmpty caps ≡ false → isEmpty (if isEmpty config then caps else config) ≡ false
 unfolding isEmpty
@@ -42,7 +41,7 @@ either-there caps (x ∷ config) some = refl
 
 pub settings-there : (n : Entry) (e : Endpoint) → entryRight n ≡ true → isEmpty (settingsOf n e) ≡ false
 unfolding settingsOf
-settings-there n e right = either-there (n .caps) (e .config) (caps-there (n .caps) (list-there n right))
+settings-there n e right = either-there (n .caps) (e .config) (list-there n right)
 
 pub settings-fit : (n : Entry) (e : Endpoint) → entryRight n ≡ true → legalEnd n e ≡ true → length (settingsOf n e) ≤ 64
 unfolding settingsOf
