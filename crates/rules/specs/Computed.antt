@@ -18,11 +18,10 @@ use Rattle.rules.specs.Endpoints.{forgotten, leaving, endAt, upIn, withE
 use Rattle.rules.specs.Saved.{areaFor, endpointIn, recordRight, headOf, storeEnd, endsIn, recordsRight, storeEnds}
 use Rattle.rules.specs.Saved.{gatheringAt, gatheringIn, gatheringOctetsRight, gatheringHead, storeGathering, connectionIn}
 use Rattle.rules.specs.Saved.{store, savedRight}
-use Rattle.rules.specs.Commands.{stays, moves, rejectBare, rejectElement, rejectSeid, ourIn, farIn, foundOr, atEndpoint}
-use Rattle.rules.specs.Commands.{isConfigured, isOpen, isStreaming, isSet, inUse, discovered, discover, capabilities}
-use Rattle.rules.specs.Commands.{settled, setAt, setConfiguration, getConfiguration, reconfigureAt, reconfigure, openUp}
-use Rattle.rules.specs.Commands.{mayStart, maySuspend, turnOne, turnEach, turn, close, abort, securityControl, delayReport}
-use Rattle.rules.specs.Commands.{signalOf, obey, answer}
+use Rattle.rules.specs.Commands.{signalOf, stays, moves, rejects, lengthRight, ourIn, farIn, isConfigured, isOpen}
+use Rattle.rules.specs.Commands.{isStreaming, isSet, may, wrongState, metAt, meets, preamble, atMet, named, inUse}
+use Rattle.rules.specs.Commands.{discovered, discover, offersAt, settled, setAt, configurationAt, reconfigureAt, openAt}
+use Rattle.rules.specs.Commands.{shiftOne, shiftEach, shift, leaveAt, securityAt, delayAt, obey, answer}
 use Rattle.rules.specs.Host.{checkCall, numberOr, savedNumber, refusalOf, packetRefusal, freshCall, nothingSaid, said}
 use Rattle.rules.specs.Host.{toldOf, payloadOf, turnOf, takes, packetCall, eventCall, settingsOf, shownAt, settingsCall}
 use Rattle.rules.specs.Host.{heard, heardAt, delayCall, packetsCall, cutRefusal, cutCall}
@@ -39,10 +38,10 @@ unfolding between sameOctets member isEmpty some-of each-of front headed itemsPa
     channelRight takesDelay delayRight farRight keepsNothing keepsSettings legalEnd legalEnds awaiting legalGathering
     legal inState withChannel withDelay withConfig forgotten leaving endAt upIn withEnds downAt happens areaFor endpointIn
     recordRight headOf storeEnd endsIn recordsRight storeEnds gatheringAt gatheringIn gatheringOctetsRight gatheringHead
-    storeGathering connectionIn store savedRight stays moves rejectBare rejectElement rejectSeid ourIn farIn foundOr
-    atEndpoint isConfigured isOpen isStreaming isSet inUse discovered discover capabilities settled setAt setConfiguration
-    getConfiguration reconfigureAt reconfigure openUp mayStart maySuspend turnOne turnEach turn close abort
-    securityControl delayReport signalOf obey answer checkCall numberOr savedNumber refusalOf packetRefusal freshCall
+    storeGathering connectionIn store savedRight signalOf stays moves rejects lengthRight ourIn farIn isConfigured isOpen
+    isStreaming isSet may wrongState metAt meets preamble atMet named inUse discovered discover offersAt settled setAt
+    configurationAt reconfigureAt openAt shiftOne shiftEach shift leaveAt securityAt delayAt obey answer
+    checkCall numberOr savedNumber refusalOf packetRefusal freshCall
     nothingSaid said toldOf payloadOf turnOf takes packetCall eventCall settingsOf shownAt settingsCall heard heardAt
     delayCall packetsCall cutRefusal cutCall keptBy answered asked call answers after
 computed = tt

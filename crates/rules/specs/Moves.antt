@@ -1,5 +1,5 @@
 -- The words of "a rejected Start or Suspend names the first endpoint that failed and has moved exactly those listed before it".
-use Prim.Native.Nat.{ℕ}
+use Prim.Native.Nat.{ℕ, _*_}
 use mathlib.Core.Path.{_≡_}
 use mathlib.Core.List.{List, [], _∷_, _++_}
 use mathlib.Core.Bool.{Bool, true, false, _&&_, _||_}
@@ -10,8 +10,9 @@ use Rattle.rules.specs.Octets.{some-of}
 use Rattle.rules.specs.Book.{Book, Found, unknown, known, find}
 use Rattle.rules.specs.Packets.{Message}
 use Rattle.rules.specs.Endpoints.{Endpoint, Ends, endAt, inState}
-use Rattle.rules.specs.Commands.{Reply, silence, generalReject, accept, reject, rejectSeid, ourIn, Outcome}
+use Rattle.rules.specs.Commands.{Reply, silence, generalReject, accept, reject, rejects, ourIn, may, Outcome}
 use Rattle.rules.specs.declared.State.{State}
+use Rattle.rules.specs.declared.Signal.{Signal}
 
 -- one endpoint moved to a state, and each that a payload lists, in turn
 unfoldable pub movedOne : State → Found → Ends → Ends
@@ -23,14 +24,14 @@ movedAll to book ends [] = ends
 movedAll to book ends (o ∷ os) = movedAll to book (movedOne to (find (ourIn o) book) ends) os
 
 -- it is known and may move; and so each that a payload lists, in its turn
-unfoldable pub mayOne : (Endpoint → Bool) → Found → Ends → Bool
-mayOne may unknown ends = false
-mayOne may (known i n) ends = may (endAt ends i)
+unfoldable pub mayOne : Signal → Found → Ends → Bool
+mayOne signal unknown ends = false
+mayOne signal (known i n) ends = may signal (endAt ends i .state) (endAt ends i .channel)
 
-unfoldable pub mayAll : (Endpoint → Bool) → State → Book → Ends → List ℕ → Bool
-mayAll may to book ends [] = true
-mayAll may to book ends (o ∷ os) =
-    mayOne may (find (ourIn o) book) ends && mayAll may to book (movedOne to (find (ourIn o) book) ends) os
+unfoldable pub mayAll : Signal → State → Book → Ends → List ℕ → Bool
+mayAll signal to book ends [] = true
+mayAll signal to book ends (o ∷ os) =
+    mayOne signal (find (ourIn o) book) ends && mayAll signal to book (movedOne to (find (ourIn o) book) ends) os
 
 -- why it failed: not known, or in the wrong state
 unfoldable pub failCode : Found → ℕ
@@ -50,23 +51,23 @@ movedIf true to e = inState to e
 movedIf false to e = e
 
 -- Stopped at the first that failed: those before it might move and have moved, it might not, and the reply names it.
-pub record Stopped (may : Endpoint → Bool) (to : State) (book : Book) (ends : Ends) (p : List ℕ) (out : Outcome) : Type 0 where
+pub record Stopped (signal : Signal) (to : State) (book : Book) (ends : Ends) (p : List ℕ) (out : Outcome) : Type 0 where
   pub before : List ℕ
   pub failed : ℕ
   pub behind : List ℕ
   pub listed : p ≡ before ++ failed ∷ behind
-  pub might : mayAll may to book ends before ≡ true
+  pub might : mayAll signal to book ends before ≡ true
   pub moved : out .ends ≡ movedAll to book ends before
-  pub mightNot : mayOne may (find (ourIn failed) book) (movedAll to book ends before) ≡ false
-  pub named : out .reply ≡ rejectSeid (ourIn failed) (failCode (find (ourIn failed) book))
+  pub mightNot : mayOne signal (find (ourIn failed) book) (movedAll to book ends before) ≡ false
+  pub named : out .reply ≡ rejects signal (ourIn failed .0 * 4) (failCode (find (ourIn failed) book))
 
 -- Start and Suspend
-unfoldable pub turns : Message → Bool
-turns m = eqb (m .type) 0 && (eqb (m .signal) 0x07 || eqb (m .signal) 0x09)
+unfoldable pub shifts : Message → Bool
+shifts m = eqb (m .type) 0 && (eqb (m .signal) 0x07 || eqb (m .signal) 0x09)
 
-unfoldable pub turnsIn : Option Message → Bool
-turnsIn none = false
-turnsIn (some m) = turns m
+unfoldable pub shiftsIn : Option Message → Bool
+shiftsIn none = false
+shiftsIn (some m) = shifts m
 
 unfoldable pub isAccept : Reply → Bool
 isAccept silence = false
