@@ -12,8 +12,8 @@ use borrow.Author.Tests.{ne-eqb}
 use Rattle.rules.specs.Octets.{if_then_else_}
 use Rattle.rules.specs.Endpoints.{isAwaited, awaiting}
 use Rattle.rules.specs.Saved.{recordRoom, channelIn, endpointIn, endsIn}
-use Rattle.commands_update.proofs.opens.none_awaits.Statement.{statement}
-use Rattle.commands_update.proofs.opens.none_awaits.Tie as tie
+use Rattle.commands_stream.proofs.opens.none_awaits.Statement.{statement}
+use Rattle.commands_stream.proofs.opens.none_awaits.Tie as tie
 
 abbrev Inv-loop : tie.InvT-loop
 Inv-loop records count i₀ i =

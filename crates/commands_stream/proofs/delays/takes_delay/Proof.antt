@@ -9,8 +9,8 @@ use lib.Dec.{eqb}
 use Rattle.rules.specs.Octets.{some-of}
 use Rattle.rules.specs.Elements.{Item, whole, short, items, categoryOf, valueWithin, offersIn, offered, isOf, has}
 use Rattle.rules.specs.Book.{isSource}
-use Rattle.commands_update.proofs.delays.takes_delay.Statement.{statement}
-use Rattle.commands_update.proofs.delays.takes_delay.Tie as tie
+use Rattle.commands_stream.proofs.delays.takes_delay.Statement.{statement}
+use Rattle.commands_stream.proofs.delays.takes_delay.Tie as tie
 
 and-true : (a : Bool) → a && true ≡ a
 and-true true = refl
