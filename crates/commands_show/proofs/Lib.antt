@@ -1,1 +1,2 @@
 mod Discovering
+mod Showing
