@@ -192,6 +192,13 @@ seen-place signal ends Unknown at e = let z : _≡_ {A = ℕ} 0 1 = cc in absurd
 seen-place signal ends (Known i kind from size) at e =
     seen-may signal ends i kind from size at (told (may signal (endAt ends i .state) (endAt ends i .channel))) e
 
+-- where a SEID that passed stands
+pub met-placed : (signal : Signal) (book records : List ℕ) (s : OurSeid) (at : Spot) → bookNumber book ≡ 0
+  → metOf signal book records s ≡ Here at → Placed s book (at .index) (at .kind) (at .from) (at .size)
+unfolding metOf
+met-placed signal book records s at right e =
+    placed-in s book (at .index) (at .kind) (at .from) (at .size) right (seen-place signal (endsOf book records) _ at e .there)
+
 seen-long : (signal : Signal) (book records p : List ℕ) (at : Spot) → Told? (lengthRight signal (length p))
   → metIn signal book records p ≡ Here at
   → (lengthRight signal (length p) ≡ true) × Seen signal (endsOf book records) (placeIn (ourIn (getD p 0 0)) book) at

@@ -1,11 +1,9 @@
-// 06 Open: a configured endpoint opens and awaits its channel, where none awaits one already.
-use commands_show::meets::Met;
-use commands_show::meets::meet;
+// 06 Open: the endpoint opens and awaits its channel, where no other awaits one.
+use commands_checks::preambles::Spot;
 use rules::Said;
 use saved::moves::opened;
 use saved::records::get;
 use saved::records::set;
-use saved_states::is_configured;
 
 ghost use mathlib.Core.Path.{_≡_};
 ghost use Prim.Native.Nat.{_*_, _≤_};
@@ -13,9 +11,10 @@ ghost use lib.ListN.{length};
 ghost use lib.Dec.{eqb};
 ghost use Rattle.rules.specs.Endpoints.{awaiting};
 ghost use Rattle.rules.specs.Saved.{recordRoom, endsIn};
-ghost use Rattle.rules.specs.Commands.{openUp};
-ghost use Rattle.saved.specs.Serves.{Serves};
+ghost use Rattle.rules.specs.Commands.{obey};
+ghost use Rattle.rules.specs.declared.Signal.the-variants.{OpenUp};
 ghost use Rattle.commands_reply.specs.Obeys.{Obeys};
+ghost use Rattle.commands_checks.specs.Named.{Named};
 
 // Whether no endpoint awaits its channel: the channel's octet is 1 where one does.
 fn none_awaits(records: &[u8], count: usize) -> bool
@@ -32,28 +31,15 @@ fn none_awaits(records: &[u8], count: usize) -> bool
     true
 }
 
-pub fn open_up(book: &[u8], records: &mut [u8], payload: &[u8], reply: &mut [u8]) -> Said
-    requires { ⌜ Serves (now book) (now records) (now payload) (now reply) ⌝ }
-    ensures { λ r. ⌜ Obeys openUp (now (book .entry)) (now (records .entry)) (now (payload .entry)) (now (reply .entry))
+pub fn open_up(book: &[u8], records: &mut [u8], payload: &[u8], reply: &mut [u8], at: Spot) -> Said
+    requires { ⌜ Named OpenUp (now book) (now records) (now payload) (now reply) at ⌝ }
+    ensures { λ r. ⌜ Obeys (obey OpenUp) (now (book .entry)) (now (records .entry)) (now (payload .entry)) (now (reply .entry))
       r (now (records .exit)) (now (reply .exit)) ⌝ }
 {
-    let met = meet(book, payload, payload.len() == 1);
-    match met {
-        Met::Refused { code } => commands_reply::rejected(reply, code),
-        Met::Here {
-            index,
-            kind: _,
-            from: _,
-            size: _,
-        } => {
-            let e = get(records, index);
-            let state = e.state;
-            if is_configured(state) && none_awaits(records, book::places::count(book)) {
-                set(records, index, opened(e));
-                commands_reply::accepted()
-            } else {
-                commands_reply::rejected(reply, 0x31)
-            }
-        }
+    if !none_awaits(records, book::places::count(book)) {
+        return commands_reply::rejected(reply, 0x31);
     }
+    let e = get(records, at.index);
+    set(records, at.index, opened(e));
+    commands_reply::accepted()
 }

@@ -1,93 +1,54 @@
-// Start and Suspend: each listed SEID in turn, and a stop at the first that fails; earlier ones stay moved.
-use rules::Channel;
+// Start and Suspend: each listed SEID in turn, and a stop at the first that fails; earlier ones stay shifted.
+use commands_checks::preambles::Met;
+use commands_checks::preambles::meets;
+use commands_checks::tables::length_right;
 use rules::OurSeid;
-use rules::Place;
 use rules::Said;
+use rules::Signal;
 use rules::State;
-use saved::records::Endpoint;
 
 ghost use mathlib.Core.Path.{_≡_};
+ghost use Prim.Native.Nat.{_+_, _*_, _≤_};
 ghost use lib.ListN.{length};
-ghost use Rattle.rules.specs.Book.{bookNumber, bookOf};
-ghost use Rattle.rules.specs.Commands.{mayStart, maySuspend};
-ghost use Rattle.rules.specs.Commands.{turn as turnEvery};
-ghost use Rattle.rules.specs.declared.State.the-variants.{Open, Streaming};
-ghost use Rattle.saved.specs.Held.{Held};
+ghost use Rattle.rules.specs.Saved.{recordRoom};
+ghost use Rattle.rules.specs.Commands.{obey};
+ghost use Rattle.rules.specs.Commands.{shift as shiftBy};
+ghost use Rattle.rules.specs.declared.Signal.the-variants.{Start, Suspend};
+ghost use Rattle.octets.specs.Patch.{patch};
+ghost use Rattle.saved.specs.Records.{loaded, headOctets, recordAt};
+ghost use Rattle.saved.specs.Moved.{inStateHead};
 ghost use Rattle.saved.specs.Serves.{Serves};
 ghost use Rattle.commands_reply.specs.Obeys.{Obeys};
-ghost use Rattle.commands_stream.specs.Turns.{mayTurn, turnedTo, Turns, mayTurnBy};
 
-// Whether an endpoint may start, open and with its channel up, or may be suspended, streaming.
-fn may_turn(e: Endpoint, starts: bool) -> bool
-    ensures { λ r. ⌜ r ≡ mayTurnBy (e .state) (e .channel) starts ⌝ }
+// Endpoint `index` in the state `to`.
+fn shift_one(records: &mut [u8], index: usize, to: State)
+    requires { ⌜ (index + 1) * recordRoom ≤ length (now records) ⌝ }
+    ensures { λ _. ⌜ now (records .exit)
+      ≡ patch (index * recordRoom) (headOctets (inStateHead to (loaded (recordAt index (now (records .entry)))))) (now (records .entry)) ⌝ }
 {
-    let state = e.state;
-    let channel = e.channel;
-    match state {
-        State::Idle => false,
-        State::Configured => false,
-        State::Open => match channel {
-            Channel::Absent => false,
-            Channel::Awaited => false,
-            Channel::Up => starts,
-        },
-        State::Streaming => !starts,
-        State::Closing => false,
-        State::Aborting => false,
-    }
+    let e = saved::records::get(records, index);
+    saved::records::set(records, index, saved::moves::in_state(e, to));
 }
 
-fn turned_to(starts: bool) -> State
-    ensures { λ r. ⌜ r ≡ turnedTo starts ⌝ }
-{
-    if starts {
-        State::Streaming
-    } else {
-        State::Open
-    }
-}
-
-// The turn of one SEID: 0, or the code of its failure.
-fn turn_one(book: &[u8], records: &mut [u8], seid: OurSeid, starts: bool) -> u8
-    requires { ⌜ (bookNumber (now book) ≡ 0) × Held (length (bookOf (now book))) (now records) ⌝ }
-    ensures { λ r. ⌜ Turns starts (now (book .entry)) (now (records .entry)) seid r (now (records .exit)) ⌝ }
-{
-    let place = book::places::place(book, seid);
-    match place {
-        Place::Unknown => 0x12,
-        Place::Known {
-            index,
-            kind: _,
-            from: _,
-            size: _,
-        } => {
-            let e = saved::records::get(records, index);
-            if may_turn(e, starts) {
-                saved::records::set(records, index, saved::moves::in_state(e, turned_to(starts)));
-                0
-            } else {
-                0x31
-            }
-        }
-    }
-}
-
-fn turn(book: &[u8], records: &mut [u8], payload: &[u8], reply: &mut [u8], starts: bool) -> Said
+fn shift(signal: Signal, to: State, book: &[u8], records: &mut [u8], payload: &[u8], reply: &mut [u8]) -> Said
     requires { ⌜ Serves (now book) (now records) (now payload) (now reply) ⌝ }
-    ensures { λ r. ⌜ Obeys (turnEvery (mayTurn starts) (turnedTo starts)) (now (book .entry)) (now (records .entry))
-        (now (payload .entry)) (now (reply .entry)) r (now (records .exit)) (now (reply .exit)) ⌝ }
+    ensures { λ r. ⌜ Obeys (shiftBy signal to) (now (book .entry)) (now (records .entry)) (now (payload .entry)) (now (reply .entry))
+      r (now (records .exit)) (now (reply .exit)) ⌝ }
 {
-    if payload.len() == 0 {
-        return commands_reply::rejected_for(reply, 0, 0x11);
+    if !length_right(signal, payload.len()) {
+        return commands_reply::refused(reply, signal, 0, 0x11);
     }
-    let mut at = 0;
-    while at < payload.len() {
-        let seid = payload[at] / 4;
-        let code = turn_one(book, records, OurSeid(seid), starts);
-        if code != 0 {
-            return commands_reply::rejected_for(reply, seid * 4, code);
+    let mut i = 0;
+    while i < payload.len() {
+        let seid = payload[i] / 4;
+        let met = meets(signal, book, records, OurSeid(seid));
+        match met {
+            Met::Refused(code) => {
+                return commands_reply::refused(reply, signal, seid * 4, code);
+            }
+            Met::Here(at) => shift_one(records, at.index, to),
         }
-        at += 1;
+        i += 1;
     }
     commands_reply::accepted()
 }
@@ -95,17 +56,17 @@ fn turn(book: &[u8], records: &mut [u8], payload: &[u8], reply: &mut [u8], start
 // 07 Start.
 pub fn start(book: &[u8], records: &mut [u8], payload: &[u8], reply: &mut [u8]) -> Said
     requires { ⌜ Serves (now book) (now records) (now payload) (now reply) ⌝ }
-    ensures { λ r. ⌜ Obeys (turnEvery mayStart Streaming) (now (book .entry)) (now (records .entry)) (now (payload .entry))
-        (now (reply .entry)) r (now (records .exit)) (now (reply .exit)) ⌝ }
+    ensures { λ r. ⌜ Obeys (obey Start) (now (book .entry)) (now (records .entry)) (now (payload .entry)) (now (reply .entry))
+      r (now (records .exit)) (now (reply .exit)) ⌝ }
 {
-    turn(book, records, payload, reply, true)
+    shift(Signal::Start, State::Streaming, book, records, payload, reply)
 }
 
 // 09 Suspend.
 pub fn suspend(book: &[u8], records: &mut [u8], payload: &[u8], reply: &mut [u8]) -> Said
     requires { ⌜ Serves (now book) (now records) (now payload) (now reply) ⌝ }
-    ensures { λ r. ⌜ Obeys (turnEvery maySuspend Open) (now (book .entry)) (now (records .entry)) (now (payload .entry))
-        (now (reply .entry)) r (now (records .exit)) (now (reply .exit)) ⌝ }
+    ensures { λ r. ⌜ Obeys (obey Suspend) (now (book .entry)) (now (records .entry)) (now (payload .entry)) (now (reply .entry))
+      r (now (records .exit)) (now (reply .exit)) ⌝ }
 {
-    turn(book, records, payload, reply, false)
+    shift(Signal::Suspend, State::Open, book, records, payload, reply)
 }
