@@ -1,34 +1,33 @@
+-- `answer` meets its contract, by the message type.
 use borrow.Author.Needs.{needs}
+use Rattle.commands.proofs.Messages.{no-command, a-command}
 use Rattle.commands.proofs.answer.Statement.{statement}
 use Rattle.commands.proofs.answer.Tie as tie
-use Rattle.commands.proofs.answer.Reads as reads
-use Rattle.commands.proofs.answer.Lts as lts
-use Rattle.commands.proofs.obey.Reads as obey-reads
-use Rattle.commands_reply.proofs.silent.Reads as silent-reads
 
--- src/lib.rt:78:9
 silent-requires : tie.Need-silent-requires
 silent-requires c κs = search needs
 
--- src/lib.rt:78:9
 returns : tie.Need-returns
-returns c = ?
+returns c =
+    let start = c .before .before .before .before .before .before in
+    no-command (start .pre) (start .args .mtype) (start .args .signal) (c .before .if1 .taken) (c .silent .ensures)
 
--- src/lib.rt:80:5
 obey-requires : tie.Need-obey-requires
 obey-requires c κs = search needs
 
--- src/lib.rt:72:1
 same-length : tie.Need-same-length
 same-length c = search needs
 
--- src/lib.rt:72:1
 same-length-2 : tie.Need-same-length-2
 same-length-2 c = search needs
 
--- src/lib.rt:72:1
 returns-2 : tie.Need-returns-2
-returns-2 c = ?
+returns-2 c =
+    let called = c .before .before .before .before in
+    let other = called .before .before .before in
+    let args = other .before .before .before .before .before .args in
+    a-command (args .book .now) (args .records .now) (args .payload .now) (args .reply .now) (args .mtype) (args .signal)
+      (other .if1 .left) (called .obey .ensures)
 
 pub answer-spec : {M : Type 1} → statement M
 answer-spec =
