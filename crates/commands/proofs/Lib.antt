@@ -1,1 +1,2 @@
-pub mod Signals
+mod Dispatch
+mod Messages

@@ -1,12 +1,56 @@
-// The dispatcher: every message that is complete goes to its command, by the signal.
+// The dispatcher: every message that is complete goes to its command, by the signal. A command that names one endpoint begins with the
+// checks that all of them share, and then does at the endpoint what is its own.
+use commands_checks::preambles::Met;
+use commands_checks::preambles::Spot;
+use commands_checks::preambles::preamble;
+use commands_checks::tables::signal_of;
 use rules::Said;
+use rules::Signal;
 
 ghost use mathlib.Core.Path.{_≡_};
+ghost use mathlib.Core.Bool.{true};
 ghost use Rattle.rules.specs.Commands.{signalOf};
 ghost use Rattle.rules.specs.Commands.{obey as obeying};
 ghost use Rattle.saved.specs.Serves.{Serves};
 ghost use Rattle.commands_reply.specs.Obeys.{Obeys};
+ghost use Rattle.commands_checks.specs.Met.{namesOne};
+ghost use Rattle.commands_checks.specs.Named.{Named};
 ghost use Rattle.commands.specs.Messages.{answering};
+
+// What a command that names one endpoint does there.
+fn act(signal: Signal, book: &[u8], records: &mut [u8], payload: &[u8], reply: &mut [u8], at: Spot) -> Said
+    requires { ⌜ (namesOne signal ≡ true) × Named signal (now book) (now records) (now payload) (now reply) at ⌝ }
+    ensures { λ r. ⌜ Obeys (obeying signal) (now (book .entry)) (now (records .entry)) (now (payload .entry)) (now (reply .entry))
+      r (now (records .exit)) (now (reply .exit)) ⌝ }
+{
+    match signal {
+        Signal::GetCapabilities => commands_show::shows::get_capabilities(book, records, payload, reply, at),
+        Signal::SetConfiguration => commands_set::settings::set_configuration(book, records, payload, reply, at),
+        Signal::GetConfiguration => commands_show::shows::get_configuration(book, records, payload, reply, at),
+        Signal::Reconfigure => commands_set::renewals::reconfigure(book, records, payload, reply, at),
+        Signal::OpenUp => commands_stream::opens::open_up(book, records, payload, reply, at),
+        Signal::Close => commands_stream::leaves::close(book, records, payload, reply, at),
+        Signal::Abort => commands_stream::leaves::abort(book, records, payload, reply, at),
+        Signal::SecurityControl => commands_show::shows::security_control(book, records, payload, reply, at),
+        Signal::GetAllCapabilities => commands_show::shows::get_all_capabilities(book, records, payload, reply, at),
+        Signal::DelayReport => commands_stream::delays::delay_report(book, records, payload, reply, at),
+        // never: these name no endpoint, or several
+        Signal::Discover | Signal::Start | Signal::Suspend | Signal::Unassigned => commands_reply::general(),
+    }
+}
+
+// A command that names one endpoint.
+fn on_endpoint(signal: Signal, book: &[u8], records: &mut [u8], payload: &[u8], reply: &mut [u8]) -> Said
+    requires { ⌜ (namesOne signal ≡ true) × Serves (now book) (now records) (now payload) (now reply) ⌝ }
+    ensures { λ r. ⌜ Obeys (obeying signal) (now (book .entry)) (now (records .entry)) (now (payload .entry)) (now (reply .entry))
+      r (now (records .exit)) (now (reply .exit)) ⌝ }
+{
+    let met = preamble(signal, book, records, payload);
+    match met {
+        Met::Refused(code) => commands_reply::refused(reply, signal, 0, code),
+        Met::Here(at) => act(signal, book, records, payload, reply, at),
+    }
+}
 
 // A command, by its signal: 00 and what stands behind 0D are unassigned.
 pub fn obey(signal: u8, book: &[u8], records: &mut [u8], payload: &[u8], reply: &mut [u8]) -> Said
@@ -14,31 +58,23 @@ pub fn obey(signal: u8, book: &[u8], records: &mut [u8], payload: &[u8], reply: 
     ensures { λ r. ⌜ Obeys (obeying (signalOf signal)) (now (book .entry)) (now (records .entry)) (now (payload .entry))
         (now (reply .entry)) r (now (records .exit)) (now (reply .exit)) ⌝ }
 {
-    match signal {
-        1 => commands_show::discovers::discover(book, records, payload, reply),
-        2 => commands_show::shows::get_capabilities(book, records, payload, reply),
-        3 => commands_set::settings::set_configuration(book, records, payload, reply),
-        4 => commands_show::shows::get_configuration(book, records, payload, reply),
-        5 => commands_set::renewals::reconfigure(book, records, payload, reply),
-        6 => commands_update::opens::open_up(book, records, payload, reply),
-        7 => commands_stream::streams::start(book, records, payload, reply),
-        8 => commands_stream::leaves::close(book, records, payload, reply),
-        9 => commands_stream::streams::suspend(book, records, payload, reply),
-        10 => commands_stream::leaves::abort(book, records, payload, reply),
-        11 => commands_show::shows::security_control(book, records, payload, reply),
-        12 => commands_show::shows::get_all_capabilities(book, records, payload, reply),
-        13 => commands_update::delays::delay_report(book, records, payload, reply),
-        _ => commands_reply::general(),
+    let command = signal_of(signal);
+    match command {
+        Signal::Discover => commands_show::discovers::discover(book, records, payload, reply),
+        Signal::Start => commands_stream::shifts::start(book, records, payload, reply),
+        Signal::Suspend => commands_stream::shifts::suspend(book, records, payload, reply),
+        Signal::Unassigned => commands_reply::general(),
+        _ => on_endpoint(command, book, records, payload, reply),
     }
 }
 
 // A message of any type: one that is no command is not answered.
-pub fn answer(kind: u8, signal: u8, book: &[u8], records: &mut [u8], payload: &[u8], reply: &mut [u8]) -> Said
+pub fn answer(mtype: u8, signal: u8, book: &[u8], records: &mut [u8], payload: &[u8], reply: &mut [u8]) -> Said
     requires { ⌜ Serves (now book) (now records) (now payload) (now reply) ⌝ }
-    ensures { λ r. ⌜ Obeys (answering kind signal) (now (book .entry)) (now (records .entry)) (now (payload .entry))
+    ensures { λ r. ⌜ Obeys (answering mtype signal) (now (book .entry)) (now (records .entry)) (now (payload .entry))
         (now (reply .entry)) r (now (records .exit)) (now (reply .exit)) ⌝ }
 {
-    if kind != 0 {
+    if mtype != 0 {
         return commands_reply::silent();
     }
     obey(signal, book, records, payload, reply)

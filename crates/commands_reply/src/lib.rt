@@ -1,12 +1,15 @@
 // Replies that a command writes at the front of the reply area, and what is said without writing.
+use rules::Fault;
 use rules::Said;
+use rules::Signal;
 
 ghost use mathlib.Core.Path.{_≡_};
 ghost use mathlib.Core.List.{[], _∷_};
 ghost use Prim.Native.Nat.{_≤_};
 ghost use lib.ListN.{length};
 ghost use Rattle.rules.specs.Octets.{front};
-ghost use Rattle.rules.specs.Commands.{silence, generalReject, accept, reject};
+ghost use Rattle.rules.specs.Commands.{silence, generalReject, accept, reject, rejects};
+ghost use Rattle.rules.specs.Host.{payloadOf};
 ghost use Rattle.rules.specs.Answers.{saidOf};
 
 pub fn silent() -> Said
@@ -47,4 +50,27 @@ pub fn rejected_for(reply: &mut [u8], what: u8, code: u8) -> Said
     reply[0] = what;
     reply[1] = code;
     Said { kind: 3, length: 2 }
+}
+
+// A reject for an element that failed.
+pub fn rejected_element(reply: &mut [u8], fault: Fault) -> Said
+    requires { ⌜ 2 ≤ length (now reply) ⌝ }
+    ensures said { λ r. ⌜ r ≡ saidOf (reject (fault .category ∷ fault .code ∷ [])) ⌝ }
+    ensures reply { λ _. ⌜ now (reply .exit) ≡ front (fault .category ∷ fault .code ∷ []) (now (reply .entry)) ⌝ }
+{
+    rejected_for(reply, fault.category, fault.code)
+}
+
+// A reject by the signal: what failed and the code, the code, or nothing.
+pub fn refused(reply: &mut [u8], signal: Signal, what: u8, code: u8) -> Said
+    requires { ⌜ 2 ≤ length (now reply) ⌝ }
+    ensures said { λ r. ⌜ r ≡ saidOf (rejects signal what code) ⌝ }
+    ensures reply { λ _. ⌜ now (reply .exit) ≡ front (payloadOf (rejects signal what code)) (now (reply .entry)) ⌝ }
+{
+    match signal {
+        Signal::SetConfiguration | Signal::Reconfigure | Signal::Start | Signal::Suspend => rejected_for(reply, what, code),
+        Signal::Abort => silent(),
+        Signal::Unassigned => general(),
+        _ => rejected(reply, code),
+    }
 }

@@ -1,22 +1,25 @@
--- What Reconfigure leads to, by its checks in order, and what is done for it: the stored configuration is copied and checked for
--- its marks, which it passes since it could be stored, and with the new elements in place it could be stored again.
+-- What Reconfigure does at the endpoint that was met: the stored configuration is copied and checked for its marks, which it
+-- passes since it could be stored, and with the new elements in place it could be stored again.
 use Prim.Native.Nat.{ℕ, _+_, _*_, _≤_}
 use mathlib.Core.Path.{_≡_, refl, sym, ap, ap₂, _∙_, subst}
-use mathlib.Core.List.{List, []}
+use mathlib.Core.List.{List, [], _∷_}
 use mathlib.Core.Bool.{true, false}
 use native.Mathlib.Nat.{le-trans}
 use native.Mathlib.Omega.{arith}
 use lib.ListN.{length, take, drop}
+use borrow.Author.Tests.{leb-true}
+use Rattle.rules.specs.Octets.{front}
 use Rattle.rules.specs.Elements.{items, faultIn, restored, couldStore}
-use Rattle.rules.specs.Book.{Entry, bookOf}
-use Rattle.rules.specs.Endpoints.{Endpoint, Ends, isIdle, withConfig, endAt}
+use Rattle.rules.specs.Endpoints.{Endpoint, isIdle, withConfig, endAt}
 use Rattle.rules.specs.Saved.{recordRoom, configRoom}
-use Rattle.rules.specs.Commands.{accept, stays, moves, rejectElement, rejectPlain, isOpen, reconfigureAt, reconfigure}
+use Rattle.rules.specs.Commands.{accept, reject, moves, rejects, rejectsFault, lengthRight, may, reconfigureAt, obey}
+use Rattle.rules.specs.Host.{payloadOf}
 use Rattle.rules.specs.Answers.{saidOf}
 use Rattle.rules.specs.declared.Said.{Said}
-use Rattle.rules.specs.declared.Rule.the-variants.{Setting, Reconfiguring}
 use Rattle.rules.specs.declared.Fault.{Fault}
-use Rattle.rules.proofs.LegalMoves.{busy-keeps, keeps-config}
+use Rattle.rules.specs.declared.Rule.the-variants.{Setting, Reconfiguring}
+use Rattle.rules.specs.declared.Signal.the-variants.{Reconfigure}
+use Rattle.rules.proofs.LegalMoves.{open-busy, busy-keeps, keeps-config}
 use Rattle.rules.proofs.Storable.{restored-could, could-short}
 use Rattle.octets.specs.Patch.{patch, part}
 use Rattle.octets.proofs.Patches.{part-patch}
@@ -30,13 +33,15 @@ use Rattle.elements_stored.specs.Stores.{markedStore, MarksFit}
 use Rattle.elements_stored.proofs.Stores.{Stores, could-checked, again-stores}
 use Rattle.saved.specs.Records.{loaded, endpointOf, recordAt, configSizeAt, configAt}
 use Rattle.saved.specs.Moved.{reconfiguredHead}
-use Rattle.saved.specs.Serves.{Serves}
 use Rattle.saved.specs.declared.records.Endpoint.{Endpoint as Head}
 use Rattle.saved.proofs.Configs.{config-length}
 use Rattle.commands_reply.specs.Obeys.{endsOf, Obeys}
-use Rattle.commands_set.specs.Kept.{Names, Renews, keptOctets}
-use Rattle.commands_set.proofs.Doings.{answered, fault-answered, Refuses, refused, moved, entry, met, few, there}
-use Rattle.commands_set.proofs.Doings.{end-here, state-here}
+use Rattle.commands_checks.specs.Named.{Named}
+use Rattle.commands_checks.specs.declared.preambles.Spot.{Spot}
+use Rattle.commands_checks.proofs.Meeting.{entryIn, stands}
+use Rattle.commands_checks.proofs.Acting.{did-say}
+use Rattle.commands_set.specs.Kept.{Renews, keptOctets}
+use Rattle.commands_set.proofs.Doings.{answered, fault-answered, few, moved}
 
 -- ---- What is written
 
@@ -111,109 +116,79 @@ module _ {caps records payload : List ℕ} {i : ℕ} {h : Head} {m : Marks} (r :
         → records′ ≡ patch (i * recordRoom) (keptOctets h anew) records
       renew-writes wrote = wrote ∙ ap (λ (l : List ℕ). patch (i * recordRoom) (keptOctets h l) records) store-same
 
--- ---- By the checks in order
-
-module _ (ends : Ends) (p : List ℕ) (i : ℕ) (n : Entry) where
-  anew-idle : isIdle (endAt ends i .state) ≡ true → reconfigureAt ends p i n ≡ stays ends (rejectPlain 0x14)
-  unfolding reconfigureAt
-  anew-idle idle = rw idle
-
-  module _ (busy : isIdle (endAt ends i .state) ≡ false) where
-    anew-closed : isOpen (endAt ends i .state) ≡ false → reconfigureAt ends p i n ≡ stays ends (rejectPlain 0x31)
-    unfolding reconfigureAt
-    anew-closed closed = rw (busy, closed)
-
-    anew-checked : {w : Walked} → isOpen (endAt ends i .state) ≡ true → checkOf Reconfiguring (items (n .caps)) p 1 ≡ w
-      → reconfigureAt ends p i n
-        ≡ answered ends
-            (moves ends i (withConfig (restored (items (drop 1 p)) (items (endAt ends i .config))) (endAt ends i))) w
-    unfolding reconfigureAt checkOf
-    anew-checked opened e =
-        rw (busy, opened)
-          (fault-answered (faultIn Reconfiguring (items (n .caps)) (items (drop 1 p))) (marksFrom p 1 noMarks) ends _ e)
-
 -- the endpoint that is configured anew
 anew-as : (h : Head) (old config : List ℕ)
   → endpointOf (reconfiguredHead (length config) h) config ≡ withConfig config (endpointOf h old)
 unfolding endpointOf withConfig
 anew-as h old config = refl
 
--- ---- What is done at the endpoint that the payload names
+-- ---- What is done at the endpoint
 
-module _ {book records payload reply : List ℕ} {i from size : ℕ} (serves : Serves book records payload reply)
-    (names : Names book payload i from size) {h : Head} (here : h ≡ loaded (recordAt i records)) where
+module _ {book records p reply : List ℕ} {at : Spot} (call : Named Reconfigure book records p reply at) where
+  pub three : 3 ≤ length p
+  unfolding lengthRight
+  three = leb-true 3 (length p) (stands call .long)
+
   -- what the check of the elements finds
   abbrev Finds : Walked → Type 0
-  Finds w = checkOf Reconfiguring (items (take size (drop from book))) payload 1 ≡ w
+  Finds w = checkOf Reconfiguring (items (take (at .size) (drop (at .from) book))) p 1 ≡ w
 
-  config-here : endAt (endsOf book records) i .config ≡ configAt i records
+  config-here : endAt (endsOf book records) (at .index) .config ≡ configAt (at .index) records
   unfolding endpointOf
-  config-here = ap (λ (e : Endpoint). e .config) (end-here serves names here)
+  config-here = ap (λ (e : Endpoint). e .config) (stands call .shows)
 
-  pub renews : {caps : List ℕ} {m : Marks} → isIdle (h .state) ≡ false → caps ≡ take size (drop from book) → Finds (Clean m)
-    → Renews caps records payload i h m
-  renews {caps} {m} busy same e =
-      let it = endAt (endsOf book records) i in
-      let settings = busy-keeps (entry serves names) it (met serves names .lawful) (state-here serves names here isIdle busy) in
-      let offers = take size (drop from book) in
-      subst (λ (l : List ℕ). Renews l records payload i h m) (sym same)
+  busy : isIdle (endAt (endsOf book records) (at .index) .state) ≡ false
+  unfolding may
+  busy = open-busy (endAt (endsOf book records) (at .index) .state) (stands call .takes)
+
+  pub renews : {caps : List ℕ} {h : Head} {m : Marks} → caps ≡ take (at .size) (drop (at .from) book)
+    → h ≡ loaded (recordAt (at .index) records) → Finds (Clean m) → Renews caps records p (at .index) h m
+  renews {h = h} {m = m} same loads e =
+      let it = endAt (endsOf book records) (at .index) in
+      let offers = take (at .size) (drop (at .from) book) in
+      let settings = busy-keeps (entryIn book p at) it (stands call .lawful) busy in
+      subst (λ (l : List ℕ). Renews l records p (at .index) h m) (sym same)
         (record {
-          inside = met serves names .inside;
-          head = here;
-          told = met serves names .told;
+          inside = stands call .inside;
+          head = loads;
+          told = stands call .told;
           could =
-            subst (λ (l : List ℕ). couldStore (items offers) l ≡ true) config-here
-              (keeps-config (entry serves names) it settings);
-          few = few serves names;
+            subst (λ (l : List ℕ). couldStore (items offers) l ≡ true) config-here (keeps-config (entryIn book p at) it settings);
+          few = few call;
           clean = e
         })
 
-  module _ (long : 3 ≤ length payload) where
-    outcome : reconfigure (bookOf book) (endsOf book records) payload
-      ≡ reconfigureAt (endsOf book records) payload i (entry serves names)
-    unfolding reconfigure
-    outcome = there serves names 3 reconfigureAt long
+  checked : {w : Walked} → Finds w
+    → reconfigureAt (endsOf book records) p (at .index) (entryIn book p at)
+      ≡ answered Reconfigure (endsOf book records)
+          (moves (endsOf book records) (at .index)
+            (withConfig (restored (items (drop 1 p)) (items (endAt (endsOf book records) (at .index) .config)))
+              (endAt (endsOf book records) (at .index))))
+          w
+  unfolding reconfigureAt checkOf
+  checked e =
+      let caps = items (take (at .size) (drop (at .from) book)) in
+      fault-answered Reconfigure (faultIn Reconfiguring caps (items (drop 1 p))) (marksFrom p 1 noMarks) (endsOf book records) _ e
 
-    pub idle-refused : isIdle (h .state) ≡ true
-      → {said : Said} {reply′ : List ℕ} → Refuses reconfigure book records payload reply (rejectPlain 0x14) said reply′
-    idle-refused idle =
-        refused reconfigure serves (rejectPlain 0x14)
-          (outcome ∙ anew-idle (endsOf book records) payload i (entry serves names) (state-here serves names here isIdle idle))
+  pub fault-refused : {f : Fault} → Finds (Failed f) → {said : Said} {reply′ : List ℕ}
+    → (said ≡ saidOf (reject (f .category ∷ f .code ∷ []))) × (reply′ ≡ front (f .category ∷ f .code ∷ []) reply)
+    → Obeys (obey Reconfigure) book records p reply said records reply′
+  unfolding obey rejectsFault rejects payloadOf
+  fault-refused {f} e h =
+      did-say call (reconfigureAt (endsOf book records) p) refl (rejectsFault Reconfigure f) (checked e) (h .0) (h .1)
 
-    module _ (busy : isIdle (h .state) ≡ false) where
-      pub closed-refused : isOpen (h .state) ≡ false
-        → {said : Said} {reply′ : List ℕ} → Refuses reconfigure book records payload reply (rejectPlain 0x31) said reply′
-      closed-refused closed =
-          refused reconfigure serves (rejectPlain 0x31)
-            (outcome
-             ∙ anew-closed (endsOf book records) payload i (entry serves names) (state-here serves names here isIdle busy)
-                 (state-here serves names here isOpen closed))
-
-      module _ (opened : isOpen (h .state) ≡ true) where
-        checked : {w : Walked} → Finds w
-          → reconfigure (bookOf book) (endsOf book records) payload
-            ≡ answered (endsOf book records)
-                (moves (endsOf book records) i
-                  (withConfig (restored (items (drop 1 payload)) (items (endAt (endsOf book records) i .config)))
-                    (endAt (endsOf book records) i)))
-                w
-        checked e =
-            outcome
-            ∙ anew-checked (endsOf book records) payload i (entry serves names) (state-here serves names here isIdle busy)
-                (state-here serves names here isOpen opened) e
-
-        pub fault-refused : {f : Fault} → Finds (Failed f)
-          → {said : Said} {reply′ : List ℕ} → Refuses reconfigure book records payload reply (rejectElement f) said reply′
-        fault-refused {f} e = refused reconfigure serves (rejectElement f) (checked e)
-
-        pub anew-moves : {m : Marks} {said : Said} {records′ : List ℕ} → Finds (Clean m) → said ≡ saidOf (accept [])
-          → records′
-            ≡ patch (i * recordRoom) (keptOctets h (restored (items (drop 1 payload)) (items (configAt i records)))) records
-          → Obeys reconfigure book records payload reply said records′ reply
-        anew-moves e accepts wrote =
-            let config = restored (items (drop 1 payload)) (items (configAt i records)) in
-            moved reconfigure serves i h config (checked e)
-              (anew-as h (configAt i records) config
-               ∙ sym (ap₂ (λ (l : List ℕ) (x : Endpoint). withConfig (restored (items (drop 1 payload)) (items l)) x) config-here
-                   (end-here serves names here)))
-              (met serves names .placed .counted) (anew-short (renews busy refl e)) accepts wrote
+  pub anew-moves : {m : Marks} {h : Head} {said : Said} {records′ : List ℕ} → Finds (Clean m)
+    → h ≡ loaded (recordAt (at .index) records) → said ≡ saidOf (accept [])
+    → records′
+      ≡ patch (at .index * recordRoom)
+          (keptOctets h (restored (items (drop 1 p)) (items (configAt (at .index) records)))) records
+    → Obeys (obey Reconfigure) book records p reply said records′ reply
+  unfolding obey
+  anew-moves {h = h} e loads accepts wrote =
+      let old = configAt (at .index) records in
+      let config = restored (items (drop 1 p)) (items old) in
+      let here = ap (λ (x : Head). endpointOf x old) loads ∙ sym (stands call .shows) in
+      moved call (reconfigureAt (endsOf book records) p) refl h config (checked e)
+        (anew-as h old config
+         ∙ ap₂ (λ (l : List ℕ) (x : Endpoint). withConfig (restored (items (drop 1 p)) (items l)) x) (sym config-here) here)
+        (anew-short (renews refl loads e)) accepts wrote

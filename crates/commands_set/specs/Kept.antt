@@ -1,26 +1,18 @@
--- The endpoint that a payload names, and what is kept of a configuration.
+-- What is kept of a configuration, and what is asked where it is written anew.
 use Prim.Native.Nat.{ℕ, _+_, _*_, _≤_}
 use mathlib.Core.Path.{_≡_}
 use mathlib.Core.List.{List, _++_}
 use mathlib.Core.Bool.{true}
-use lib.ListN.{length, getD}
+use lib.ListN.{length}
 use Rattle.rules.specs.Elements.{items, couldStore}
-use Rattle.rules.specs.Walks.{placeIn}
 use Rattle.rules.specs.Saved.{recordRoom, configRoom}
-use Rattle.rules.specs.Commands.{ourIn}
 use Rattle.rules.specs.declared.Rule.the-variants.{Reconfiguring}
-use Rattle.rules.specs.declared.Place.the-variants.{Known}
 use Rattle.elements.specs.Walks.{checkOf}
 use Rattle.elements.specs.declared.marks.Marks.{Marks}
 use Rattle.elements.specs.declared.walks.Walked.the-variants.{Clean}
 use Rattle.saved.specs.Records.{loaded, headOctets, recordAt, configSizeAt, configAt}
 use Rattle.saved.specs.Moved.{reconfiguredHead}
 use Rattle.saved.specs.declared.records.Endpoint.{Endpoint as Head}
-
--- the payload begins with the SEID of entry i, whose list is the `size` octets from `from` on
-pub record Names (book payload : List ℕ) (i from size : ℕ) : Type 0 where
-  pub kind : ℕ
-  pub there : placeIn (ourIn (getD payload 0 0)) book ≡ Known i kind from size
 
 -- the octets of a record with this configuration: the head, which tells its length, and the configuration
 unfoldable pub keptOctets : Head → List ℕ → List ℕ

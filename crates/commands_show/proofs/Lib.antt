@@ -1,2 +1,2 @@
-pub mod Meeting
-pub mod Discovering
+mod Discovering
+mod Showing

@@ -1,3 +1,1 @@
-pub mod Met
 pub mod Says
-pub mod Shown

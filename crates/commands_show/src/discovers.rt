@@ -1,5 +1,7 @@
 // 01 Discover: two octets for each entry of the book, its SEID with whether it is in use, and its kind octet.
+use commands_checks::tables::length_right;
 use rules::Said;
+use rules::Signal;
 use saved::records::get;
 use saved_states::is_idle;
 
@@ -8,8 +10,8 @@ ghost use Prim.Native.Nat.{_+_, _*_, _≤_};
 ghost use lib.ListN.{length};
 ghost use Rattle.rules.specs.Book.{bookNumber, bookOf};
 ghost use Rattle.rules.specs.Saved.{recordRoom, endpointIn, endsIn};
-ghost use Rattle.rules.specs.Commands.{accept, inUse, discovered};
-ghost use Rattle.rules.specs.Commands.{discover as discoverAll};
+ghost use Rattle.rules.specs.Commands.{accept, inUse, discovered, obey};
+ghost use Rattle.rules.specs.declared.Signal.the-variants.{Discover};
 ghost use Rattle.saved.specs.Records.{recordAt};
 ghost use Rattle.saved.specs.Serves.{Serves};
 ghost use Rattle.commands_reply.specs.Obeys.{Obeys};
@@ -50,10 +52,10 @@ fn list_entries(book: &[u8], records: &[u8], reply: &mut [u8]) -> Said
 
 pub fn discover(book: &[u8], records: &[u8], payload: &[u8], reply: &mut [u8]) -> Said
     requires { ⌜ Serves (now book) (now records) (now payload) (now reply) ⌝ }
-    ensures { λ r. ⌜ Obeys discoverAll (now (book .entry)) (now (records .entry)) (now (payload .entry)) (now (reply .entry))
+    ensures { λ r. ⌜ Obeys (obey Discover) (now (book .entry)) (now (records .entry)) (now (payload .entry)) (now (reply .entry))
       r (now (records .entry)) (now (reply .exit)) ⌝ }
 {
-    if payload.len() == 0 {
+    if length_right(Signal::Discover, payload.len()) {
         list_entries(book, records, reply)
     } else {
         commands_reply::rejected(reply, 0x11)

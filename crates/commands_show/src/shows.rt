@@ -1,20 +1,15 @@
-// The commands that only read.
-use crate::meets::Met;
-use crate::meets::meet;
+// What is answered at the endpoint that a command names, where nothing is moved.
+use commands_checks::preambles::Spot;
 use rules::Said;
 use saved::records::config;
-use saved::records::get;
-use saved_states::is_set;
 
 ghost use Prim.Native.Nat.{_≤_};
 ghost use lib.ListN.{length};
-ghost use Rattle.rules.specs.Book.{shownBy02, shownBy0C};
-ghost use Rattle.rules.specs.Commands.{accept, getConfiguration, securityControl};
-ghost use Rattle.rules.specs.Commands.{capabilities as offersOf};
-ghost use Rattle.saved.specs.Serves.{Serves};
+ghost use Rattle.rules.specs.Commands.{accept, obey};
+ghost use Rattle.rules.specs.declared.Signal.the-variants.{GetCapabilities, GetConfiguration, SecurityControl, GetAllCapabilities};
 ghost use Rattle.commands_reply.specs.Obeys.{Obeys};
+ghost use Rattle.commands_checks.specs.Named.{Named};
 ghost use Rattle.commands_show.specs.Says.{Says};
-ghost use Rattle.commands_show.specs.Shown.{shownBy};
 
 // An accept with a payload.
 fn accepted_with(reply: &mut [u8], payload: &[u8]) -> Said
@@ -28,89 +23,39 @@ fn accepted_with(reply: &mut [u8], payload: &[u8]) -> Said
     }
 }
 
-// What an endpoint offers: all of its list, or the elements of categories 1 to 7.
-fn capabilities(book: &[u8], records: &[u8], payload: &[u8], reply: &mut [u8], all: bool) -> Said
-    requires { ⌜ Serves (now book) (now records) (now payload) (now reply) ⌝ }
-    ensures { λ r. ⌜ Obeys (offersOf (shownBy all)) (now (book .entry)) (now (records .entry)) (now (payload .entry))
+// 02: of what the endpoint offers, the elements of categories 1 to 7.
+pub fn get_capabilities(book: &[u8], records: &[u8], payload: &[u8], reply: &mut [u8], at: Spot) -> Said
+    requires { ⌜ Named GetCapabilities (now book) (now records) (now payload) (now reply) at ⌝ }
+    ensures { λ r. ⌜ Obeys (obey GetCapabilities) (now (book .entry)) (now (records .entry)) (now (payload .entry))
       (now (reply .entry)) r (now (records .entry)) (now (reply .exit)) ⌝ }
 {
-    let met = meet(book, payload, payload.len() == 1);
-    match met {
-        Met::Refused { code } => commands_reply::rejected(reply, code),
-        Met::Here {
-            index: _,
-            kind: _,
-            from,
-            size,
-        } => {
-            let list = octets::part(book, from, size);
-            if all {
-                return accepted_with(reply, list);
-            }
-            let length = elements_stored::shown::show(reply, 0, list, 0);
-            Said { kind: 2, length }
-        }
-    }
+    let length = elements_stored::shown::show(reply, 0, octets::part(book, at.from, at.size), 0);
+    Said { kind: 2, length }
 }
 
-// 02.
-pub fn get_capabilities(book: &[u8], records: &[u8], payload: &[u8], reply: &mut [u8]) -> Said
-    requires { ⌜ Serves (now book) (now records) (now payload) (now reply) ⌝ }
-    ensures { λ r. ⌜ Obeys (offersOf shownBy02) (now (book .entry)) (now (records .entry)) (now (payload .entry))
+// 0C: all of it.
+pub fn get_all_capabilities(book: &[u8], records: &[u8], payload: &[u8], reply: &mut [u8], at: Spot) -> Said
+    requires { ⌜ Named GetAllCapabilities (now book) (now records) (now payload) (now reply) at ⌝ }
+    ensures { λ r. ⌜ Obeys (obey GetAllCapabilities) (now (book .entry)) (now (records .entry)) (now (payload .entry))
       (now (reply .entry)) r (now (records .entry)) (now (reply .exit)) ⌝ }
 {
-    capabilities(book, records, payload, reply, false)
-}
-
-// 0C.
-pub fn get_all_capabilities(book: &[u8], records: &[u8], payload: &[u8], reply: &mut [u8]) -> Said
-    requires { ⌜ Serves (now book) (now records) (now payload) (now reply) ⌝ }
-    ensures { λ r. ⌜ Obeys (offersOf shownBy0C) (now (book .entry)) (now (records .entry)) (now (payload .entry))
-      (now (reply .entry)) r (now (records .entry)) (now (reply .exit)) ⌝ }
-{
-    capabilities(book, records, payload, reply, true)
+    accepted_with(reply, octets::part(book, at.from, at.size))
 }
 
 // 04: the configuration as it is stored.
-pub fn get_configuration(book: &[u8], records: &[u8], payload: &[u8], reply: &mut [u8]) -> Said
-    requires { ⌜ Serves (now book) (now records) (now payload) (now reply) ⌝ }
-    ensures { λ r. ⌜ Obeys getConfiguration (now (book .entry)) (now (records .entry)) (now (payload .entry)) (now (reply .entry))
-      r (now (records .entry)) (now (reply .exit)) ⌝ }
+pub fn get_configuration(book: &[u8], records: &[u8], payload: &[u8], reply: &mut [u8], at: Spot) -> Said
+    requires { ⌜ Named GetConfiguration (now book) (now records) (now payload) (now reply) at ⌝ }
+    ensures { λ r. ⌜ Obeys (obey GetConfiguration) (now (book .entry)) (now (records .entry)) (now (payload .entry))
+      (now (reply .entry)) r (now (records .entry)) (now (reply .exit)) ⌝ }
 {
-    let met = meet(book, payload, payload.len() == 1);
-    match met {
-        Met::Refused { code } => commands_reply::rejected(reply, code),
-        Met::Here {
-            index,
-            kind: _,
-            from: _,
-            size: _,
-        } => {
-            let e = get(records, index);
-            let state = e.state;
-            if is_set(state) {
-                accepted_with(reply, config(records, index))
-            } else {
-                commands_reply::rejected(reply, 0x31)
-            }
-        }
-    }
+    accepted_with(reply, config(records, at.index))
 }
 
 // 0B: no content protection is spoken here.
-pub fn security_control(book: &[u8], records: &[u8], payload: &[u8], reply: &mut [u8]) -> Said
-    requires { ⌜ Serves (now book) (now records) (now payload) (now reply) ⌝ }
-    ensures { λ r. ⌜ Obeys securityControl (now (book .entry)) (now (records .entry)) (now (payload .entry)) (now (reply .entry))
-      r (now (records .entry)) (now (reply .exit)) ⌝ }
+pub fn security_control(book: &[u8], records: &[u8], payload: &[u8], reply: &mut [u8], at: Spot) -> Said
+    requires { ⌜ Named SecurityControl (now book) (now records) (now payload) (now reply) at ⌝ }
+    ensures { λ r. ⌜ Obeys (obey SecurityControl) (now (book .entry)) (now (records .entry)) (now (payload .entry))
+      (now (reply .entry)) r (now (records .entry)) (now (reply .exit)) ⌝ }
 {
-    let met = meet(book, payload, 1 <= payload.len());
-    match met {
-        Met::Refused { code } => commands_reply::rejected(reply, code),
-        Met::Here {
-            index: _,
-            kind: _,
-            from: _,
-            size: _,
-        } => commands_reply::rejected(reply, 0x19),
-    }
+    commands_reply::rejected(reply, 0x19)
 }

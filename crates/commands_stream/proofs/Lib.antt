@@ -1,4 +1,4 @@
-pub mod HeadStored
-pub mod StoredOver
-pub mod Leaving
-pub mod Turning
+mod HeadStored
+mod Moving
+mod StoredOver
+mod Shifting

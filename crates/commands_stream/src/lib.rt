@@ -1,3 +1,6 @@
-// The commands that only move endpoints from state to state: Close and Abort, Start and Suspend.
+// The commands that move an endpoint and leave its configuration: at the endpoint that was met Open, Close, Abort and Delay Report,
+// and at each of those listed Start and Suspend.
+pub mod opens;
 pub mod leaves;
-pub mod streams;
+pub mod delays;
+pub mod shifts;

@@ -18,20 +18,21 @@ use Rattle.rules.specs.Book.{Entry, Book, Found, unknown, known, later, 
 use Rattle.rules.specs.Packets.{Message}
 use Rattle.rules.specs.Endpoints.{Endpoint, Ends, Connection, idle, freshEnds, freshConnection, endAt, inState}
 use Rattle.rules.specs.Endpoints.{downAt, happens}
-use Rattle.rules.specs.Commands.{Reply, accept, Outcome, stays, rejectBare, rejectSeid, ourIn}
-use Rattle.rules.specs.Commands.{foundOr, atEndpoint, discovered, discover, capabilities, setAt, setConfiguration}
-use Rattle.rules.specs.Commands.{getConfiguration, reconfigureAt, reconfigure, openUp, mayStart, maySuspend, turnOne}
-use Rattle.rules.specs.Commands.{turnEach, turn, close, abort, securityControl, Signal, Discover, GetCapabilities}
-use Rattle.rules.specs.Commands.{SetConfiguration, GetConfiguration, Reconfigure, OpenUp, Start, Close, Suspend, Abort}
-use Rattle.rules.specs.Commands.{SecurityControl, GetAllCapabilities, DelayReport, Unassigned, signalOf, obey, answer}
+use Rattle.rules.specs.Commands.{accept, Outcome, stays, rejects, lengthRight, ourIn, may, wrongState, refused, here, metAt}
+use Rattle.rules.specs.Commands.{meets, preamble, atMet, named, discovered, discover, offersAt, setAt, configurationAt}
+use Rattle.rules.specs.Commands.{reconfigureAt, openAt, shiftOne, shiftEach, shift, leaveAt, securityAt, signalOf, obey}
+use Rattle.rules.specs.Commands.{answer, Met}
 use Rattle.rules.specs.Alike.{alikeEntry, alike, usesDelay}
 use Rattle.rules.specs.declared.OurSeid.{OurSeid}
 use Rattle.rules.specs.declared.Rule.{Rule}
 use Rattle.rules.specs.declared.Rule.the-variants.{Offer, Setting, Reconfiguring}
 use Rattle.rules.specs.declared.State.{State}
-use Rattle.rules.specs.declared.State.the-variants.{Open, Streaming}
 use Rattle.rules.specs.declared.Event.{Event}
 use Rattle.rules.specs.declared.Event.the-variants.{Down, Lost}
+use Rattle.rules.specs.declared.Signal.{Signal}
+use Rattle.rules.specs.declared.Signal.the-variants.{Discover, GetCapabilities, SetConfiguration, GetConfiguration, Reconfigure}
+use Rattle.rules.specs.declared.Signal.the-variants.{OpenUp, Start, Close, Suspend, Abort, SecurityControl}
+use Rattle.rules.specs.declared.Signal.the-variants.{GetAllCapabilities, DelayReport, Unassigned}
 
 -- ---- Entries alike: same SEID, same kind, and same elements of categories 1 to 7
 
@@ -211,22 +212,46 @@ find-alike s (entries {n} {n′} {book} {book′} e rest) =
       (alike-seid n n′ e)
       (here-alike (eqb (n .seid .0) (s .0)) n n′ (find s book) (find s book′) e (find-alike s rest))
 
--- ---- Commands: what is done at the place that is found is the same for entries alike
+-- ---- Commands: the checks come to the same, and what is done at the place that is found is the same for entries alike
 
-found-same : (m : Outcome) (f f′ : Found) (on on′ : ℕ → Entry → Outcome) → FoundAlike f f′
-    → ((i : ℕ) (n n′ : Entry) → alikeEntry n n′ ≡ true → on i n ≡ on′ i n′)
-    → foundOr m f on ≡ foundOr m f′ on′
-unfolding foundOr
-found-same m f f′ on on′ both-unknown same = refl
-found-same m f f′ on on′ (both-known i n n′ e) same = same i n n′ e
+data MetAlike : Met → Met → Type 0 where
+  both-refused : (code : ℕ) → MetAlike (refused code) (refused code)
+  both-here : (i : ℕ) (n n′ : Entry) → alikeEntry n n′ ≡ true → MetAlike (here i n) (here i n′)
 
-module _ {book book′ : Book} (same : AlikeBooks book book′) where
-  at-same : (refuse : ℕ → Reply) (right : Bool) (ends : Ends) (p : List ℕ) (on on′ : ℕ → Entry → Outcome)
-      → ((i : ℕ) (n n′ : Entry) → alikeEntry n n′ ≡ true → on i n ≡ on′ i n′)
-      → atEndpoint refuse right book ends p on ≡ atEndpoint refuse right book′ ends p on′
-  unfolding atEndpoint
-  at-same refuse false ends p on on′ there = refl
-  at-same refuse true ends p on on′ there = found-same _ _ _ on on′ (find-alike (ourIn (getD p 0 0)) same) there
+allowed-alike : (b : Bool) (code i : ℕ) (n n′ : Entry) → alikeEntry n n′ ≡ true
+    → MetAlike (if b then here i n else refused code) (if b then here i n′ else refused code)
+allowed-alike true code i n n′ e = both-here i n n′ e
+allowed-alike false code i n n′ e = both-refused code
+
+met-alike : (signal : Signal) (ends : Ends) (f f′ : Found) → FoundAlike f f′ → MetAlike (metAt signal ends f) (metAt signal ends f′)
+unfolding metAt
+met-alike signal ends f f′ both-unknown = both-refused 0x12
+met-alike signal ends f f′ (both-known i n n′ e) = allowed-alike (may signal _ _) _ i n n′ e
+
+module _ (signal : Signal) {book book′ : Book} (same : AlikeBooks book book′) (ends : Ends) where
+  meets-alike : (s : OurSeid) → MetAlike (meets signal book ends s) (meets signal book′ ends s)
+  unfolding meets
+  meets-alike s = met-alike signal ends _ _ (find-alike s same)
+
+  preamble-alike : (p : List ℕ) → MetAlike (preamble signal book ends p) (preamble signal book′ ends p)
+  unfolding preamble
+  preamble-alike p = go (lengthRight signal (length p))
+    where
+      go : (b : Bool)
+        → MetAlike (if b then meets signal book ends (ourIn (getD p 0 0)) else refused 0x11)
+            (if b then meets signal book′ ends (ourIn (getD p 0 0)) else refused 0x11)
+      go true = meets-alike (ourIn (getD p 0 0))
+      go false = both-refused 0x11
+
+  module _ (on on′ : ℕ → Entry → Outcome) (there : (i : ℕ) (n n′ : Entry) → alikeEntry n n′ ≡ true → on i n ≡ on′ i n′) where
+    met-same : (m m′ : Met) → MetAlike m m′ → atMet signal ends on m ≡ atMet signal ends on′ m′
+    unfolding atMet
+    met-same m m′ (both-refused code) = refl
+    met-same m m′ (both-here i n n′ e) = there i n n′ e
+
+    named-same : (p : List ℕ) → named signal book ends p on ≡ named signal book′ ends p on′
+    unfolding named
+    named-same p = met-same _ _ (preamble-alike p)
 
 discovered-alike : {book book′ : Book} (ends : Ends) → AlikeBooks book book′ → discovered book ends ≡ discovered book′ ends
 unfolding discovered
@@ -244,21 +269,24 @@ reconfigure-at-alike : (ends : Ends) (p : List ℕ) (i : ℕ) (n n′ : Entry) �
 unfolding reconfigureAt
 reconfigure-at-alike ends p i n n′ e = rw (fault-alike Reconfiguring n n′ e (items (drop 1 p)) (reconfiguring-passes8 (items (drop 1 p))))
 
-module _ {book book′ : Book} (same : AlikeBooks book book′) where
-  turn-each-same : (may : Endpoint → Bool) (to : State) (ends : Ends) (os : List ℕ)
-      → turnEach may to book ends os ≡ turnEach may to book′ ends os
-  unfolding turnEach turnOne
-  turn-each-same may to ends [] = refl
-  turn-each-same may to ends (o ∷ os) =
-      found-same _ _ _ _ _ (find-alike (ourIn o) same) λ i n n′ e.
-        ap (λ (next : Outcome). if may (endAt ends i) then next else stays ends (rejectSeid (ourIn o) 0x31))
-          (turn-each-same may to (set ends i (inState to (endAt ends i))) os)
+shift-one-same : (signal : Signal) (to : State) (s : OurSeid) (ends : Ends) (next next′ : Ends → Outcome) (m m′ : Met)
+    → MetAlike m m′ → ((x : Ends) → next x ≡ next′ x) → shiftOne signal to s ends next m ≡ shiftOne signal to s ends next′ m′
+unfolding shiftOne
+shift-one-same signal to s ends next next′ m m′ (both-refused code) rest = refl
+shift-one-same signal to s ends next next′ m m′ (both-here i n n′ e) rest = rest (set ends i (inState to (endAt ends i)))
 
-  turn-same : (may : Endpoint → Bool) (to : State) (ends : Ends) (p : List ℕ) → turn may to book ends p ≡ turn may to book′ ends p
-  unfolding turn
-  turn-same may to ends p =
-      ap (λ (o : Outcome). if eqb (length p) 0 then stays ends (rejectSeid (record { 0 = 0 }) 0x11) else o)
-        (turn-each-same may to ends p)
+module _ (signal : Signal) (to : State) {book book′ : Book} (same : AlikeBooks book book′) where
+  shift-each-same : (ends : Ends) (os : List ℕ) → shiftEach signal to book ends os ≡ shiftEach signal to book′ ends os
+  unfolding shiftEach
+  shift-each-same ends [] = refl
+  shift-each-same ends (o ∷ os) =
+      shift-one-same signal to (ourIn o) ends _ _ _ _ (meets-alike signal same ends (ourIn o)) (λ x. shift-each-same x os)
+
+  shift-same : (ends : Ends) (p : List ℕ) → shift signal to book ends p ≡ shift signal to book′ ends p
+  unfolding shift
+  shift-same ends p =
+      ap (λ (o : Outcome). if lengthRight signal (length p) then o else stays ends (rejects signal 0 0x11))
+        (shift-each-same ends p)
 
 -- a command that has no use for delay reporting
 unfoldable pub forgoes : Signal → List ℕ → Bool
@@ -279,21 +307,22 @@ forgoes Unassigned p = true
 
 obey-same : (s : Signal) {book book′ : Book} (ends : Ends) (p : List ℕ) → AlikeBooks book book′ → forgoes s p ≡ true
     → obey s book ends p ≡ obey s book′ ends p
-unfolding obey forgoes discover capabilities setConfiguration getConfiguration reconfigure openUp close abort securityControl
+unfolding obey forgoes discover offersAt configurationAt openAt leaveAt securityAt
 obey-same Discover ends p same ok =
-    ap (λ (l : List ℕ). stays ends (if eqb (length p) 0 then accept l else rejectBare 0x11)) (discovered-alike ends same)
+    ap (λ (l : List ℕ). stays ends (if lengthRight Discover (length p) then accept l else rejects Discover 0 0x11))
+      (discovered-alike ends same)
 obey-same GetCapabilities ends p same ok =
-    at-same same _ _ ends p _ _ λ i n n′ e. ap (λ (l : List ℕ). stays ends (accept l)) (alike-shown n n′ e)
+    named-same _ same ends _ _ (λ i n n′ e. ap (λ (l : List ℕ). stays ends (accept l)) (alike-shown n n′ e)) p
 obey-same SetConfiguration ends p same ok =
-    at-same same _ _ ends p _ _ λ i n n′ e. set-at-alike ends p i n n′ (not-passed (has 8 (items (drop 2 p))) ok) e
-obey-same GetConfiguration ends p same ok = at-same same _ _ ends p _ _ λ i n n′ e. refl
-obey-same Reconfigure ends p same ok = at-same same _ _ ends p _ _ (reconfigure-at-alike ends p)
-obey-same OpenUp ends p same ok = at-same same _ _ ends p _ _ λ i n n′ e. refl
-obey-same Start ends p same ok = turn-same same mayStart Streaming ends p
-obey-same Close ends p same ok = at-same same _ _ ends p _ _ λ i n n′ e. refl
-obey-same Suspend ends p same ok = turn-same same maySuspend Open ends p
-obey-same Abort ends p same ok = at-same same _ _ ends p _ _ λ i n n′ e. refl
-obey-same SecurityControl ends p same ok = at-same same _ _ ends p _ _ λ i n n′ e. refl
+    named-same _ same ends _ _ (λ i n n′ e. set-at-alike ends p i n n′ (not-passed (has 8 (items (drop 2 p))) ok) e) p
+obey-same GetConfiguration ends p same ok = named-same _ same ends _ _ (λ i n n′ e. refl) p
+obey-same Reconfigure ends p same ok = named-same _ same ends _ _ (reconfigure-at-alike ends p) p
+obey-same OpenUp ends p same ok = named-same _ same ends _ _ (λ i n n′ e. refl) p
+obey-same Start ends p same ok = shift-same _ _ same ends p
+obey-same Close ends p same ok = named-same _ same ends _ _ (λ i n n′ e. refl) p
+obey-same Suspend ends p same ok = shift-same _ _ same ends p
+obey-same Abort ends p same ok = named-same _ same ends _ _ (λ i n n′ e. refl) p
+obey-same SecurityControl ends p same ok = named-same _ same ends _ _ (λ i n n′ e. refl) p
 obey-same GetAllCapabilities ends p same ok = clash refl (sym ok)
 obey-same DelayReport ends p same ok = clash refl (sym ok)
 obey-same Unassigned ends p same ok = refl

@@ -3,33 +3,33 @@ use Prim.Native.Nat.{ℕ, _≤_}
 use native.Mathlib.Omega.{arith}
 use mathlib.Core.Path.{_≡_, refl}
 use mathlib.Core.List.{List, [], _∷_}
-use mathlib.Core.Bool.{Bool, true, false, not, _&&_, _||_}
+use mathlib.Core.Bool.{true, false, not}
 use lib.ListN.{length, drop, getD, set}
 use lib.Dec.{leb, eqb}
 use borrow.Author.Tests.{leb-true, eqb-true, le-leb, not-false}
 use Rattle.rules.specs.Elements.{items, faultIn, stored, restored}
-use Rattle.rules.specs.Book.{Entry, Book, shownBy02, shownBy0C}
+use Rattle.rules.specs.Book.{Entry, Book}
 use Rattle.rules.specs.Packets.{Message}
 use Rattle.rules.specs.Endpoints.{Endpoint, Ends, isIdle, isUp, isAwaited, legalEnd, legalEnds, awaiting, takesDelay}
 use Rattle.rules.specs.Endpoints.{farRight, inState, withChannel, withDelay, withConfig, leaving, endAt, channelRight}
 use Rattle.rules.specs.Saved.{pairIn}
-use Rattle.rules.specs.Commands.{Reply, Outcome, stays, moves, rejectBare, rejectPlain, silence, farIn, isConfigured}
-use Rattle.rules.specs.Commands.{isOpen, isStreaming, isSet, discover, capabilities, settled, setAt, setConfiguration}
-use Rattle.rules.specs.Commands.{getConfiguration, reconfigureAt, reconfigure, openUp, mayStart, maySuspend, turnOne}
-use Rattle.rules.specs.Commands.{turnEach, turn, close, abort, securityControl, delayReport, Signal, Discover}
-use Rattle.rules.specs.Commands.{GetCapabilities, SetConfiguration, GetConfiguration, Reconfigure, OpenUp, Start, Close}
-use Rattle.rules.specs.Commands.{Suspend, Abort, SecurityControl, GetAllCapabilities, DelayReport, Unassigned, signalOf}
-use Rattle.rules.specs.Commands.{obey, answer}
+use Rattle.rules.specs.Commands.{Reply, Outcome, stays, moves, lengthRight, ourIn, farIn, isOpen, may, discover, offersAt}
+use Rattle.rules.specs.Commands.{settled, setAt, configurationAt, reconfigureAt, openAt, shiftEach}
+use Rattle.rules.specs.Commands.{shift, leaveAt, securityAt, delayAt, signalOf, obey, answer}
 use Rattle.rules.specs.declared.Rule.the-variants.{Setting, Reconfiguring}
 use Rattle.rules.specs.declared.State.{State}
 use Rattle.rules.specs.declared.State.the-variants.{Open, Streaming, Closing, Aborting}
 use Rattle.rules.specs.declared.Channel.the-variants.{Awaited, Up}
 use Rattle.rules.specs.declared.Delay.the-variants.{Reported}
+use Rattle.rules.specs.declared.Signal.{Signal}
+use Rattle.rules.specs.declared.Signal.the-variants.{Discover, GetCapabilities, SetConfiguration, GetConfiguration, Reconfigure}
+use Rattle.rules.specs.declared.Signal.the-variants.{OpenUp, Start, Close, Suspend, Abort, SecurityControl}
+use Rattle.rules.specs.declared.Signal.the-variants.{GetAllCapabilities, DelayReport, Unassigned}
 use Rattle.rules.proofs.Tests.{and-l, and-r}
 use Rattle.rules.proofs.Places.{At, legal-at, legal-set, awaits, awaiting-kept, awaiting-raised}
 use Rattle.rules.proofs.LegalMoves.{leaving-awaits, started-legal, suspended-legal, leaving-legal, opened-legal}
-use Rattle.rules.proofs.LegalMoves.{with-delay-legal, with-config-legal, settled-legal, busy-keeps, keeps-config}
-use Rattle.rules.proofs.Outcomes.{if-arms, found-arms, endpoint-arms}
+use Rattle.rules.proofs.LegalMoves.{with-delay-legal, with-config-legal, settled-legal, busy-keeps, keeps-config, open-busy}
+use Rattle.rules.proofs.Outcomes.{if-arms, Takes, named-arms, shift-arms}
 use Rattle.rules.proofs.Storable.{stored-could, restored-could, restored-has-8}
 
 -- ---- Legal endpoints, of which at most one awaits a channel
@@ -59,7 +59,7 @@ module _ (book : Book) (ends : Ends) (h : LegalEnds book ends) where
   unfolding moves
   moves-legal i n e a t w = put-legal i n e a t w
 
-  -- ---- The commands
+  -- ---- What each command does at its endpoint
 
   set-at-legal : (p : List ℕ) (i : ℕ) (n : Entry) → At book i n → Leaves book (setAt ends p i n)
   unfolding setAt awaits settled isAwaited
@@ -69,7 +69,6 @@ module _ (book : Book) (ends : Ends) (h : LegalEnds book ends) where
       let asked = items (drop 2 p) in
       let fault = faultIn Setting (items (n .caps)) asked in
       let right-code = eqb (fault .code) 0 in
-      if-arms (Leaves book) (not (isIdle (e .state))) _ _ (λ t. same-legal _) λ f.
       if-arms (Leaves book) (not (farRight far)) _ _ (λ t. same-legal _) λ right-far.
       if-arms (Leaves book) (not right-code) _ _ (λ t. same-legal _) λ right.
       moves-legal i n (settled e far (stored asked)) a
@@ -77,23 +76,17 @@ module _ (book : Book) (ends : Ends) (h : LegalEnds book ends) where
           (stored-could (items (n .caps)) asked (eqb-true (fault .code) 0 (not-false right-code right))))
         (omega arith)
 
-  set-configuration-legal : (p : List ℕ) → Leaves book (setConfiguration book ends p)
-  unfolding setConfiguration
-  set-configuration-legal p =
-      endpoint-arms (Leaves book) rejectPlain (leb 2 (length p)) book ends p (setAt ends p) (λ c. same-legal _)
-        (set-at-legal p)
-
-  reconfigure-at-legal : (p : List ℕ) (i : ℕ) (n : Entry) → At book i n → Leaves book (reconfigureAt ends p i n)
-  unfolding reconfigureAt awaits withConfig
-  reconfigure-at-legal p i n a =
+  reconfigure-at-legal : (p : List ℕ) (i : ℕ) (n : Entry) → At book i n → Takes Reconfigure ends i
+      → Leaves book (reconfigureAt ends p i n)
+  unfolding reconfigureAt awaits withConfig may
+  reconfigure-at-legal p i n a opened =
       let e = endAt ends i in
       let t = legal-at a ends (h .every) in
+      let busy = open-busy (e .state) opened in
       let caps = items (n .caps) in
       let asked = items (drop 1 p) in
       let fault = faultIn Reconfiguring caps asked in
       let right-code = eqb (fault .code) 0 in
-      if-arms (Leaves book) (isIdle (e .state)) _ _ (λ i. same-legal _) λ busy.
-      if-arms (Leaves book) (not (isOpen (e .state))) _ _ (λ o. same-legal _) λ o.
       if-arms (Leaves book) (not right-code) _ _ (λ c. same-legal _) λ right.
       let faultless = eqb-true (fault .code) 0 (not-false right-code right) in
       let could = keeps-config n e (busy-keeps n e t busy) in
@@ -102,124 +95,91 @@ module _ (book : Book) (ends : Ends) (h : LegalEnds book ends) where
           (restored-has-8 caps asked (items (e .config)) faultless))
         (omega arith)
 
-  reconfigure-legal : (p : List ℕ) → Leaves book (reconfigure book ends p)
-  unfolding reconfigure
-  reconfigure-legal p =
-      endpoint-arms (Leaves book) rejectPlain (leb 3 (length p)) book ends p (reconfigureAt ends p) (λ c. same-legal _)
-        (reconfigure-at-legal p)
-
   -- the one command after which an endpoint may await a channel that did not: none did before
-  open-up-legal : (p : List ℕ) → Leaves book (openUp book ends p)
-  unfolding openUp moves
-  open-up-legal p =
-      endpoint-arms (Leaves book) rejectBare (eqb (length p) 1) book ends p _ (λ c. same-legal _) λ i n a.
+  open-at-legal : (i : ℕ) (n : Entry) → At book i n → Takes OpenUp ends i → Leaves book (openAt ends i n)
+  unfolding openAt moves may
+  open-at-legal i n a configured =
       let e = endAt ends i in
       let opened = withChannel Awaited (inState Open e) in
-      if-arms (Leaves book) (isConfigured (e .state) && eqb (awaiting ends) 0) _ _
+      if-arms (Leaves book) (eqb (awaiting ends) 0) _ _
         (λ t.
-          let none = eqb-true (awaiting ends) 0 (and-r (isConfigured (e .state)) (eqb (awaiting ends) 0) t) in
+          let none = eqb-true (awaiting ends) 0 t in
           let raised = awaiting-raised ends i opened in
-          let configured = and-l (isConfigured (e .state)) (eqb (awaiting ends) 0) t in
           record {
             every = legal-set a ends opened (h .every) (opened-legal n e (legal-at a ends (h .every)) configured);
             one = le-leb (awaiting (set ends i opened)) 1 (omega arith)
           })
         (λ f. same-legal _)
 
-  discover-legal : (p : List ℕ) → Leaves book (discover book ends p)
-  unfolding discover
-  discover-legal p = same-legal _
-
-  capabilities-legal : (shown : Entry → List ℕ) (p : List ℕ) → Leaves book (capabilities shown book ends p)
-  unfolding capabilities
-  capabilities-legal shown p =
-      endpoint-arms (Leaves book) rejectBare (eqb (length p) 1) book ends p _ (λ c. same-legal _) (λ i n a. same-legal _)
-
-  get-configuration-legal : (p : List ℕ) → Leaves book (getConfiguration book ends p)
-  unfolding getConfiguration
-  get-configuration-legal p =
-      endpoint-arms (Leaves book) rejectBare (eqb (length p) 1) book ends p _ (λ c. same-legal _) (λ i n a. same-legal _)
-
-  security-control-legal : (p : List ℕ) → Leaves book (securityControl book ends p)
-  unfolding securityControl
-  security-control-legal p =
-      endpoint-arms (Leaves book) rejectBare (leb 1 (length p)) book ends p _ (λ c. same-legal _) (λ i n a. same-legal _)
-
   -- Close and Abort: to a state that goes with a channel, or to idle
-  leaves-legal : (i : ℕ) (n : Entry) → At book i n → (s : State) → isIdle s ≡ false → channelRight s Up ≡ true
-      → Leaves book (moves ends i (leaving s (endAt ends i)))
-  leaves-legal i n a s busy up =
+  leave-at-legal : (s : State) → isIdle s ≡ false → channelRight s Up ≡ true → (i : ℕ) (n : Entry) → At book i n
+      → Leaves book (leaveAt s ends i n)
+  unfolding leaveAt
+  leave-at-legal s busy up i n a =
       let e = endAt ends i in
       moves-legal i n (leaving s e) a (leaving-legal n e (legal-at a ends (h .every)) s busy up) (leaving-awaits s e)
 
-  close-legal : (p : List ℕ) → Leaves book (close book ends p)
-  unfolding close isIdle channelRight isUp
-  close-legal p =
-      endpoint-arms (Leaves book) rejectBare (eqb (length p) 1) book ends p _ (λ c. same-legal _) λ i n a.
-      let e = endAt ends i in
-      if-arms (Leaves book) (isOpen (e .state) || isStreaming (e .state)) _ _
-        (λ t. leaves-legal i n a Closing refl refl)
-        (λ f. same-legal _)
-
-  abort-legal : (p : List ℕ) → Leaves book (abort book ends p)
-  unfolding abort isIdle channelRight isUp
-  abort-legal p =
-      endpoint-arms (Leaves book) (λ code. silence) (eqb (length p) 1) book ends p _ (λ c. same-legal _) λ i n a.
-      leaves-legal i n a Aborting refl refl
-
-  delay-report-legal : (p : List ℕ) → Leaves book (delayReport book ends p)
-  unfolding delayReport awaits withDelay
-  delay-report-legal p =
-      endpoint-arms (Leaves book) rejectBare (eqb (length p) 3) book ends p _ (λ c. same-legal _) λ i n a.
+  delay-at-legal : (p : List ℕ) (i : ℕ) (n : Entry) → At book i n → Takes DelayReport ends i → Leaves book (delayAt ends p i n)
+  unfolding delayAt awaits withDelay may
+  delay-at-legal p i n a is-set =
       let e = endAt ends i in
       let heard = Reported (pairIn (getD p 1 0) (getD p 2 0)) in
-      if-arms (Leaves book) (not (isSet (e .state))) _ _ (λ t. same-legal _) λ is-set.
       if-arms (Leaves book) (not (takesDelay n e)) _ _ (λ t. same-legal _) λ takes.
       moves-legal i n (withDelay heard e) a
-        (with-delay-legal n e (legal-at a ends (h .every)) heard (not-false (isSet (e .state)) is-set)
-          (not-false (takesDelay n e) takes))
+        (with-delay-legal n e (legal-at a ends (h .every)) heard is-set (not-false (takesDelay n e) takes))
         (omega arith)
 
 -- ---- Start and Suspend: one endpoint after the other, each by a legal move
 
-module _ (may : Endpoint → Bool) (to : State) (book : Book)
-    (move : (n : Entry) (e : Endpoint) → legalEnd n e ≡ true → may e ≡ true → legalEnd n (inState to e) ≡ true) where
-  turn-each-legal : (os : List ℕ) (ends : Ends) → LegalEnds book ends → Leaves book (turnEach may to book ends os)
-  unfolding turnEach turnOne awaits inState
-  turn-each-legal [] ends h = same-legal book ends h _
-  turn-each-legal (o ∷ os) ends h =
-      found-arms (Leaves book) o book _ _ (same-legal book ends h _) λ i n a.
+module _ (signal : Signal) (to : State) (book : Book)
+    (move : (n : Entry) (e : Endpoint) → legalEnd n e ≡ true → may signal (e .state) (e .channel) ≡ true
+      → legalEnd n (inState to e) ≡ true) where
+  shift-each-legal : (os : List ℕ) (ends : Ends) → LegalEnds book ends → Leaves book (shiftEach signal to book ends os)
+  unfolding shiftEach awaits inState
+  shift-each-legal [] ends h = same-legal book ends h _
+  shift-each-legal (o ∷ os) ends h =
+      shift-arms signal book ends (Leaves book) to (ourIn o) _ (λ code. same-legal book ends h _) λ i n a m.
       let e = endAt ends i in
-      if-arms (Leaves book) (may e) _ _
-        (λ m. turn-each-legal os (set ends i (inState to e))
-          (put-legal book ends h i n (inState to e) a (move n e (legal-at a ends (h .every)) m) (omega arith)))
-        (λ f. same-legal book ends h _)
+      shift-each-legal os (set ends i (inState to e))
+        (put-legal book ends h i n (inState to e) a (move n e (legal-at a ends (h .every)) m) (omega arith))
 
-  turn-legal : (ends : Ends) → LegalEnds book ends → (p : List ℕ) → Leaves book (turn may to book ends p)
-  unfolding turn
-  turn-legal ends h p =
-      if-arms (Leaves book) (eqb (length p) 0) _ _ (λ t. same-legal book ends h _) (λ f. turn-each-legal p ends h)
+  shift-legal : (ends : Ends) → LegalEnds book ends → (p : List ℕ) → Leaves book (shift signal to book ends p)
+  unfolding shift
+  shift-legal ends h p =
+      if-arms (Leaves book) (lengthRight signal (length p)) _ _ (λ t. shift-each-legal p ends h) (λ f. same-legal book ends h _)
 
 -- ---- Every command
 
 module _ (book : Book) (ends : Ends) (h : LegalEnds book ends) where
   obey-legal : (s : Signal) (p : List ℕ) → Leaves book (obey s book ends p)
-  unfolding obey mayStart maySuspend
-  obey-legal Discover p = discover-legal book ends h p
-  obey-legal GetCapabilities p = capabilities-legal book ends h shownBy02 p
-  obey-legal SetConfiguration p = set-configuration-legal book ends h p
-  obey-legal GetConfiguration p = get-configuration-legal book ends h p
-  obey-legal Reconfigure p = reconfigure-legal book ends h p
-  obey-legal OpenUp p = open-up-legal book ends h p
+  unfolding obey discover offersAt configurationAt securityAt may isIdle channelRight isUp
+  obey-legal Discover p = same-legal book ends h _
+  obey-legal GetCapabilities p =
+      named-arms _ book ends (Leaves book) p _ (λ c. same-legal book ends h _) (λ i n a m. same-legal book ends h _)
+  obey-legal SetConfiguration p =
+      named-arms _ book ends (Leaves book) p _ (λ c. same-legal book ends h _) (λ i n a m. set-at-legal book ends h p i n a)
+  obey-legal GetConfiguration p =
+      named-arms _ book ends (Leaves book) p _ (λ c. same-legal book ends h _) (λ i n a m. same-legal book ends h _)
+  obey-legal Reconfigure p =
+      named-arms _ book ends (Leaves book) p _ (λ c. same-legal book ends h _) (reconfigure-at-legal book ends h p)
+  obey-legal OpenUp p =
+      named-arms _ book ends (Leaves book) p _ (λ c. same-legal book ends h _) (open-at-legal book ends h)
   obey-legal Start p =
-      turn-legal mayStart Streaming book
+      shift-legal Start Streaming book
         (λ n e t m. started-legal n e t (and-l (isOpen (e .state)) _ m) (and-r (isOpen (e .state)) _ m)) ends h p
-  obey-legal Close p = close-legal book ends h p
-  obey-legal Suspend p = turn-legal maySuspend Open book (λ n e t m. suspended-legal n e t m) ends h p
-  obey-legal Abort p = abort-legal book ends h p
-  obey-legal SecurityControl p = security-control-legal book ends h p
-  obey-legal GetAllCapabilities p = capabilities-legal book ends h shownBy0C p
-  obey-legal DelayReport p = delay-report-legal book ends h p
+  obey-legal Close p =
+      named-arms _ book ends (Leaves book) p _ (λ c. same-legal book ends h _)
+        (λ i n a m. leave-at-legal book ends h Closing refl refl i n a)
+  obey-legal Suspend p = shift-legal Suspend Open book (λ n e t m. suspended-legal n e t m) ends h p
+  obey-legal Abort p =
+      named-arms _ book ends (Leaves book) p _ (λ c. same-legal book ends h _)
+        (λ i n a m. leave-at-legal book ends h Aborting refl refl i n a)
+  obey-legal SecurityControl p =
+      named-arms _ book ends (Leaves book) p _ (λ c. same-legal book ends h _) (λ i n a m. same-legal book ends h _)
+  obey-legal GetAllCapabilities p =
+      named-arms _ book ends (Leaves book) p _ (λ c. same-legal book ends h _) (λ i n a m. same-legal book ends h _)
+  obey-legal DelayReport p =
+      named-arms _ book ends (Leaves book) p _ (λ c. same-legal book ends h _) (delay-at-legal book ends h p)
   obey-legal Unassigned p = same-legal book ends h _
 
   pub answer-legal : (m : Message) → LegalEnds book (answer book ends m .ends)

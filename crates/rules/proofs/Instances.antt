@@ -8,13 +8,14 @@ use Rattle.rules.specs.Computed.{computed}
 use Rattle.rules.specs.Elements.{items, stored}
 use Rattle.rules.specs.Book.{bookOf}
 use Rattle.rules.specs.Endpoints.{Ends}
-use Rattle.rules.specs.Commands.{answer, mayStart}
+use Rattle.rules.specs.Commands.{answer}
 use Rattle.rules.specs.Host.{packetCall, nothingSaid}
-use Rattle.rules.specs.Moves.{Stopped, isAccept, turns}
+use Rattle.rules.specs.Moves.{Stopped, isAccept, shifts}
 use Rattle.rules.specs.Table.{traceBook}
 use Rattle.rules.specs.declared.State.the-variants.{Idle, Open, Streaming}
 use Rattle.rules.specs.declared.Channel.the-variants.{Absent, Up}
 use Rattle.rules.specs.declared.Delay.the-variants.{Unreported}
+use Rattle.rules.specs.declared.Signal.the-variants.{Start}
 use Rattle.rules.proofs.Moves.{start-stops, unmoved}
 use Rattle.rules.proofs.Refused.{refused-packet}
 
@@ -40,7 +41,7 @@ openAndIdle =
     ∷ []
 
 -- a Start of both stops at the second
-pub start-of-both : Stopped mayStart Streaming (bookOf traceBook) openAndIdle (0x04 ∷ 0x14 ∷ [])
+pub start-of-both : Stopped Start Streaming (bookOf traceBook) openAndIdle (0x04 ∷ 0x14 ∷ [])
   (answer (bookOf traceBook) openAndIdle (record { label = 8; type = 0; signal = 0x07; payload = 0x04 ∷ 0x14 ∷ [] }))
 unfolding computed traceBook openAndIdle isAccept
 start-of-both = start-stops (bookOf traceBook) openAndIdle 8 0x04 (0x14 ∷ []) refl
@@ -48,7 +49,7 @@ start-of-both = start-stops (bookOf traceBook) openAndIdle 8 0x04 (0x14 ∷ []) 
 -- an Open of the second is rejected and moves none
 pub open-of-idle :
   answer (bookOf traceBook) openAndIdle (record { label = 8; type = 0; signal = 0x06; payload = 0x14 ∷ [] }) .ends ≡ openAndIdle
-unfolding computed traceBook openAndIdle isAccept turns
+unfolding computed traceBook openAndIdle isAccept shifts
 open-of-idle = unmoved (bookOf traceBook) openAndIdle (record { label = 8; type = 0; signal = 0x06; payload = 0x14 ∷ [] }) refl refl
 
 -- a packet size of 47 is refused with 8

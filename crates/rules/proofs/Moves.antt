@@ -1,83 +1,87 @@
 -- What a command that is not accepted leaves alone: Start and Suspend by induction on the SEIDs listed, every other command by its
 -- branches, each of which either accepts or leaves the endpoints as they were.
-use Prim.Native.Nat.{ℕ, zero, suc, _<_}
+use Prim.Native.Nat.{ℕ, zero, suc, _*_, _<_}
 use mathlib.Core.Path.{_≡_, refl, sym, ap, _∙_}
 use mathlib.Core.List.{List, [], _∷_}
 use mathlib.Core.Bool.{Bool, true, false, not, _&&_, _||_}
 use lib.ListN.{length, getD, drop, set}
 use lib.Seq.{getD-set-same, getD-set-other, lt-length-set}
-use lib.Dec.{eqb, eqb·suc-zero}
-use borrow.Author.Tests.{eqb-true, eqb-false}
+use lib.Dec.{eqb}
+use borrow.Author.Tests.{eqb-true, eqb-false, le-leb}
+use native.Mathlib.Omega.{arith}
 use Rattle.rules.specs.Octets.{if_then_else_, some-of}
 use Rattle.rules.specs.Elements.{items, faultIn}
-use Rattle.rules.specs.Book.{Entry, Book, Found, unknown, known, find, shownBy02, shownBy0C}
+use Rattle.rules.specs.Book.{Entry, Book, Found, unknown, known, find}
 use Rattle.rules.specs.Packets.{Message}
-use Rattle.rules.specs.Endpoints.{Endpoint, Ends, endAt, inState, idle, isIdle, farRight, awaiting, takesDelay}
-use Rattle.rules.specs.Commands.{Reply, silence, generalReject, accept, reject, Outcome, stays, moves, foundOr, atEndpoint}
-use Rattle.rules.specs.Commands.{ourIn, rejectSeid, turnOne, turnEach, turn, signalOf, obey, answer, discover, capabilities}
-use Rattle.rules.specs.Commands.{setConfiguration, setAt, getConfiguration, reconfigure, reconfigureAt, openUp, close}
-use Rattle.rules.specs.Commands.{abort, securityControl, delayReport, farIn, isConfigured, isOpen, isStreaming, isSet}
-use Rattle.rules.specs.Commands.{mayStart, maySuspend}
-use Rattle.rules.specs.Moves.{movedOne, movedAll, mayOne, mayAll, failCode, standsAt, lists, movedIf, Stopped, turns}
+use Rattle.rules.specs.Endpoints.{Endpoint, Ends, endAt, inState, idle, farRight, awaiting, takesDelay}
+use Rattle.rules.specs.Commands.{Reply, silence, generalReject, accept, reject, Outcome, stays, moves, rejects, lengthRight}
+use Rattle.rules.specs.Commands.{ourIn, farIn, wrongState, metAt, meets, named, discover, offersAt, setAt, configurationAt}
+use Rattle.rules.specs.Commands.{reconfigureAt, openAt, shiftOne, shiftEach, shift, leaveAt, securityAt, delayAt, signalOf}
+use Rattle.rules.specs.Commands.{obey, answer}
+use Rattle.rules.specs.Moves.{movedOne, movedAll, mayOne, mayAll, failCode, standsAt, lists, movedIf, Stopped, shifts}
 use Rattle.rules.specs.Moves.{isAccept}
 use Rattle.rules.specs.declared.Rule.the-variants.{Setting, Reconfiguring}
 use Rattle.rules.specs.declared.State.{State}
 use Rattle.rules.specs.declared.State.the-variants.{Open, Streaming}
+use Rattle.rules.specs.declared.Signal.{Signal}
+use Rattle.rules.specs.declared.Signal.the-variants.{Start, Suspend}
 use Rattle.rules.proofs.Tests.{told, Told?, passed, failed, clash, and-l, and-r, and-both}
+use Rattle.rules.proofs.Outcomes.{if-arms, named-arms}
 
 -- ---- Start and Suspend
 
-module _ (may : Endpoint → Bool) (to : State) (book : Book) where
+-- a signal whose code for a wrong state is 31h
+module _ (signal : Signal) (to : State) (book : Book) (wrong : (s : State) → wrongState signal s ≡ 0x31) where
   -- the first SEID listed: it moves and the rest follow, or it is named
-  goes : (f : Found) (ends : Ends) (o : ℕ) (next : Ends → Outcome) → mayOne may f ends ≡ true
-    → foundOr (stays ends (rejectSeid (ourIn o) 0x12)) f (turnOne may to (ourIn o) ends next) ≡ next (movedOne to f ends)
-  unfolding mayOne movedOne foundOr turnOne
+  goes : (f : Found) (ends : Ends) (o : ℕ) (next : Ends → Outcome) → mayOne signal f ends ≡ true
+    → shiftOne signal to (ourIn o) ends next (metAt signal ends f) ≡ next (movedOne to f ends)
+  unfolding mayOne movedOne metAt shiftOne
   goes unknown ends o next e = clash refl (sym e)
   goes (known i n) ends o next e = rw e
 
-  stops : (f : Found) (ends : Ends) (o : ℕ) (next : Ends → Outcome) → mayOne may f ends ≡ false
-    → foundOr (stays ends (rejectSeid (ourIn o) 0x12)) f (turnOne may to (ourIn o) ends next)
-      ≡ stays ends (rejectSeid (ourIn o) (failCode f))
-  unfolding mayOne foundOr turnOne failCode
+  stops : (f : Found) (ends : Ends) (o : ℕ) (next : Ends → Outcome) → mayOne signal f ends ≡ false
+    → shiftOne signal to (ourIn o) ends next (metAt signal ends f)
+      ≡ stays ends (rejects signal (ourIn o .0 * 4) (failCode f))
+  unfolding mayOne metAt shiftOne failCode
   stops unknown ends o next e = refl
-  stops (known i n) ends o next e = rw e
+  stops (known i n) ends o next e = rw (e, wrong)
 
   -- All may move: they all do, and the reply is an accept.
-  pub all-move : (ends : Ends) (p : List ℕ) → mayAll may to book ends p ≡ true
-    → turnEach may to book ends p ≡ stays (movedAll to book ends p) (accept [])
-  unfolding turnEach mayAll movedAll
+  pub all-move : (ends : Ends) (p : List ℕ) → mayAll signal to book ends p ≡ true
+    → shiftEach signal to book ends p ≡ stays (movedAll to book ends p) (accept [])
+  unfolding shiftEach meets mayAll movedAll
   all-move ends [] e = refl
   all-move ends (o ∷ os) e =
       let f = find (ourIn o) book in
       let moved = movedOne to f ends in
-      goes f ends o (λ x. turnEach may to book x os) (and-l (mayOne may f ends) (mayAll may to book moved os) e)
-      ∙ all-move moved os (and-r (mayOne may f ends) (mayAll may to book moved os) e)
+      goes f ends o (λ x. shiftEach signal to book x os) (and-l (mayOne signal f ends) (mayAll signal to book moved os) e)
+      ∙ all-move moved os (and-r (mayOne signal f ends) (mayAll signal to book moved os) e)
 
   -- one more before the failure
-  stopped-later : (ends : Ends) (o : ℕ) (os : List ℕ) → mayOne may (find (ourIn o) book) ends ≡ true
-    → Stopped may to book (movedOne to (find (ourIn o) book) ends) os
-        (turnEach may to book (movedOne to (find (ourIn o) book) ends) os)
-    → Stopped may to book ends (o ∷ os) (turnEach may to book ends (o ∷ os))
-  unfolding turnEach mayAll movedAll
+  stopped-later : (ends : Ends) (o : ℕ) (os : List ℕ) → mayOne signal (find (ourIn o) book) ends ≡ true
+    → Stopped signal to book (movedOne to (find (ourIn o) book) ends) os
+        (shiftEach signal to book (movedOne to (find (ourIn o) book) ends) os)
+    → Stopped signal to book ends (o ∷ os) (shiftEach signal to book ends (o ∷ os))
+  unfolding shiftEach meets mayAll movedAll
   stopped-later ends o os e s =
       let f = find (ourIn o) book in
-      let went = goes f ends o (λ x. turnEach may to book x os) e in
+      let went = goes f ends o (λ x. shiftEach signal to book x os) e in
       record {
         before = o ∷ s .before;
         failed = s .failed;
         behind = s .behind;
         listed = ap (λ (l : List ℕ). o ∷ l) (s .listed);
-        might = and-both (mayOne may f ends) (mayAll may to book (movedOne to f ends) (s .before)) e (s .might);
+        might = and-both (mayOne signal f ends) (mayAll signal to book (movedOne to f ends) (s .before)) e (s .might);
         moved = ap (λ (x : Outcome). x .ends) went ∙ s .moved;
         mightNot = s .mightNot;
         named = ap (λ (x : Outcome). x .reply) went ∙ s .named
       }
 
-  stopped-here : (ends : Ends) (o : ℕ) (os : List ℕ) → mayOne may (find (ourIn o) book) ends ≡ false
-    → Stopped may to book ends (o ∷ os) (turnEach may to book ends (o ∷ os))
-  unfolding turnEach mayAll movedAll stays
+  stopped-here : (ends : Ends) (o : ℕ) (os : List ℕ) → mayOne signal (find (ourIn o) book) ends ≡ false
+    → Stopped signal to book ends (o ∷ os) (shiftEach signal to book ends (o ∷ os))
+  unfolding shiftEach meets mayAll movedAll stays
   stopped-here ends o os e =
-      let stop = stops (find (ourIn o) book) ends o (λ x. turnEach may to book x os) e in
+      let stop = stops (find (ourIn o) book) ends o (λ x. shiftEach signal to book x os) e in
       record {
         before = [];
         failed = o;
@@ -89,24 +93,25 @@ module _ (may : Endpoint → Bool) (to : State) (book : Book) where
         named = ap (λ (x : Outcome). x .reply) stop
       }
 
-  stopped-by : (ends : Ends) (o : ℕ) (os : List ℕ) → Told? (mayOne may (find (ourIn o) book) ends)
-    → ((next : Ends) → isAccept (turnEach may to book next os .reply) ≡ false → Stopped may to book next os (turnEach may to book next os))
-    → isAccept (turnEach may to book ends (o ∷ os) .reply) ≡ false
-    → Stopped may to book ends (o ∷ os) (turnEach may to book ends (o ∷ os))
-  unfolding turnEach
+  stopped-by : (ends : Ends) (o : ℕ) (os : List ℕ) → Told? (mayOne signal (find (ourIn o) book) ends)
+    → ((next : Ends) → isAccept (shiftEach signal to book next os .reply) ≡ false
+      → Stopped signal to book next os (shiftEach signal to book next os))
+    → isAccept (shiftEach signal to book ends (o ∷ os) .reply) ≡ false
+    → Stopped signal to book ends (o ∷ os) (shiftEach signal to book ends (o ∷ os))
+  unfolding shiftEach meets
   stopped-by ends o os (failed q) rest e = stopped-here ends o os q
   stopped-by ends o os (passed q) rest e =
       let f = find (ourIn o) book in
-      let went = goes f ends o (λ x. turnEach may to book x os) q in
+      let went = goes f ends o (λ x. shiftEach signal to book x os) q in
       stopped-later ends o os q (rest (movedOne to f ends) (sym (ap (λ (x : Outcome). isAccept (x .reply)) went) ∙ e))
 
   -- Not accepted: stopped at the first that failed.
-  pub stops-first : (ends : Ends) (p : List ℕ) → isAccept (turnEach may to book ends p .reply) ≡ false
-    → Stopped may to book ends p (turnEach may to book ends p)
-  unfolding turnEach isAccept stays
+  pub stops-first : (ends : Ends) (p : List ℕ) → isAccept (shiftEach signal to book ends p .reply) ≡ false
+    → Stopped signal to book ends p (shiftEach signal to book ends p)
+  unfolding shiftEach isAccept stays
   stops-first ends [] e = clash refl e
   stops-first ends (o ∷ os) e =
-      stopped-by ends o os (told (mayOne may (find (ourIn o) book) ends)) (λ next q. stops-first next os q) e
+      stopped-by ends o os (told (mayOne signal (find (ourIn o) book) ends)) (λ next q. stops-first next os q) e
 
 -- Which endpoints have moved: exactly those that the payload lists.
 moved-once : (to : State) (f : Found) (ends : Ends) (i : ℕ) → i < length ends
@@ -159,137 +164,86 @@ module _ (ends : Ends) where
   by-test true x y p q = p
   by-test false x y p q = q
 
-  by-finding : (missing : Outcome) (f : Found) (on : ℕ → Entry → Outcome) → Unmoved ends missing
-    → ((i : ℕ) (n : Entry) → Unmoved ends (on i n)) → Unmoved ends (foundOr missing f on)
-  unfolding foundOr
-  by-finding missing unknown on m h = m
-  by-finding missing (known i n) on m h = h i n
-
-  by-endpoint : (refuse : ℕ → Reply) (b : Bool) (book : Book) (p : List ℕ) (on : ℕ → Entry → Outcome)
-    → ((i : ℕ) (n : Entry) → Unmoved ends (on i n)) → Unmoved ends (atEndpoint refuse b book ends p on)
-  unfolding atEndpoint
-  by-endpoint refuse b book p on h =
-      by-test b _ _ (by-finding _ (find (ourIn (getD p 0 0)) book) on (by-staying (refuse 0x12)) h) (by-staying (refuse 0x11))
-
-  -- Set Configuration and Reconfigure: three checks, then the move
-  three-tests : (i : ℕ) (a b c : Bool) (x y z : Reply) (e : Endpoint)
-    → Unmoved ends (if a then stays ends x else if b then stays ends y else if c then stays ends z else moves ends i e)
-  three-tests i a b c x y z e =
-      by-test a _ _ (by-staying x) (by-test b _ _ (by-staying y) (by-test c _ _ (by-staying z) (by-moving i e)))
+  -- of a command that names one endpoint
+  by-naming : (signal : Signal) (book : Book) (p : List ℕ) (on : ℕ → Entry → Outcome)
+    → ((i : ℕ) (n : Entry) → Unmoved ends (on i n)) → Unmoved ends (named signal book ends p on)
+  by-naming signal book p on h = named-arms signal book ends (Unmoved ends) p on (λ code. by-staying _) (λ i n a m. h i n)
 
 module _ (book : Book) (ends : Ends) (p : List ℕ) where
-  of-discover : Unmoved ends (discover book ends p)
-  unfolding discover
-  of-discover = by-staying ends _
-
-  of-capabilities : (shown : Entry → List ℕ) → Unmoved ends (capabilities shown book ends p)
-  unfolding capabilities
-  of-capabilities shown = by-endpoint ends _ _ book _ _ (λ i n. by-staying ends _)
-
-  of-set-at : (i : ℕ) (n : Entry) → Unmoved ends (setAt ends p i n)
+  of-set : (i : ℕ) (n : Entry) → Unmoved ends (setAt ends p i n)
   unfolding setAt
-  of-set-at i n =
-      three-tests ends i (not (isIdle (endAt ends i .state))) (not (farRight (farIn (getD p 1 0))))
-      (not (eqb (faultIn Setting (items (n .caps)) (items (drop 2 p)) .code) 0)) _ _ _ _
+  of-set i n =
+      by-test ends (not (farRight (farIn (getD p 1 0)))) _ _ (by-staying ends _)
+      (by-test ends (not (eqb (faultIn Setting (items (n .caps)) (items (drop 2 p)) .code) 0)) _ _ (by-staying ends _)
+       (by-moving ends i _))
 
-  of-set : Unmoved ends (setConfiguration book ends p)
-  unfolding setConfiguration
-  of-set = by-endpoint ends _ _ book p _ of-set-at
-
-  of-get : Unmoved ends (getConfiguration book ends p)
-  unfolding getConfiguration
-  of-get = by-endpoint ends _ _ book p _ (λ i n. by-staying ends _)
-
-  of-reconfigure-at : (i : ℕ) (n : Entry) → Unmoved ends (reconfigureAt ends p i n)
+  of-reconfigure : (i : ℕ) (n : Entry) → Unmoved ends (reconfigureAt ends p i n)
   unfolding reconfigureAt
-  of-reconfigure-at i n =
-      three-tests ends i (isIdle (endAt ends i .state)) (not (isOpen (endAt ends i .state)))
-      (not (eqb (faultIn Reconfiguring (items (n .caps)) (items (drop 1 p)) .code) 0)) _ _ _ _
+  of-reconfigure i n =
+      by-test ends (not (eqb (faultIn Reconfiguring (items (n .caps)) (items (drop 1 p)) .code) 0)) _ _ (by-staying ends _)
+      (by-moving ends i _)
 
-  of-reconfigure : Unmoved ends (reconfigure book ends p)
-  unfolding reconfigure
-  of-reconfigure = by-endpoint ends _ _ book p _ of-reconfigure-at
+  of-open : (i : ℕ) (n : Entry) → Unmoved ends (openAt ends i n)
+  unfolding openAt
+  of-open i n = by-test ends (eqb (awaiting ends) 0) _ _ (by-moving ends i _) (by-staying ends _)
 
-  of-open : Unmoved ends (openUp book ends p)
-  unfolding openUp
-  of-open =
-      by-endpoint ends _ _ book p _ λ i n.
-        by-test ends (isConfigured (endAt ends i .state) && eqb (awaiting ends) 0) _ _ (by-moving ends i _) (by-staying ends _)
+  of-leaving : (to : State) (i : ℕ) (n : Entry) → Unmoved ends (leaveAt to ends i n)
+  unfolding leaveAt
+  of-leaving to i n = by-moving ends i _
 
-  of-close : Unmoved ends (close book ends p)
-  unfolding close
-  of-close =
-      by-endpoint ends _ _ book p _ λ i n.
-        by-test ends (isOpen (endAt ends i .state) || isStreaming (endAt ends i .state)) _ _ (by-moving ends i _) (by-staying ends _)
-
-  of-abort : Unmoved ends (abort book ends p)
-  unfolding abort
-  of-abort = by-endpoint ends _ _ book p _ (λ i n. by-moving ends i _)
-
-  of-security : Unmoved ends (securityControl book ends p)
-  unfolding securityControl
-  of-security = by-endpoint ends _ _ book p _ (λ i n. by-staying ends _)
-
-  of-delay : Unmoved ends (delayReport book ends p)
-  unfolding delayReport
-  of-delay =
-      by-endpoint ends _ _ book p _ λ i n.
-        by-test ends (not (isSet (endAt ends i .state))) _ _ (by-staying ends _)
-        (by-test ends (not (takesDelay n (endAt ends i))) _ _ (by-staying ends _) (by-moving ends i _))
+  of-delay : (i : ℕ) (n : Entry) → Unmoved ends (delayAt ends p i n)
+  unfolding delayAt
+  of-delay i n = by-test ends (not (takesDelay n (endAt ends i))) _ _ (by-staying ends _) (by-moving ends i _)
 
   -- by the signal's number: all but 07 and 09
   of-signal : (n : ℕ) → eqb n 0x07 ≡ false → eqb n 0x09 ≡ false → Unmoved ends (obey (signalOf n) book ends p)
-  unfolding signalOf obey
+  unfolding signalOf obey discover offersAt configurationAt securityAt
   of-signal zero a b = by-staying ends generalReject
-  of-signal (suc zero) a b = of-discover
-  of-signal (suc (suc zero)) a b = of-capabilities shownBy02
-  of-signal (suc (suc (suc zero))) a b = of-set
-  of-signal (suc (suc (suc (suc zero)))) a b = of-get
-  of-signal (suc (suc (suc (suc (suc zero))))) a b = of-reconfigure
-  of-signal (suc (suc (suc (suc (suc (suc zero)))))) a b = of-open
+  of-signal (suc zero) a b = by-staying ends _
+  of-signal (suc (suc zero)) a b = by-naming ends _ book p _ (λ i n. by-staying ends _)
+  of-signal (suc (suc (suc zero))) a b = by-naming ends _ book p _ of-set
+  of-signal (suc (suc (suc (suc zero)))) a b = by-naming ends _ book p _ (λ i n. by-staying ends _)
+  of-signal (suc (suc (suc (suc (suc zero))))) a b = by-naming ends _ book p _ of-reconfigure
+  of-signal (suc (suc (suc (suc (suc (suc zero)))))) a b = by-naming ends _ book p _ of-open
   of-signal (suc (suc (suc (suc (suc (suc (suc zero))))))) a b = clash refl a
-  of-signal (suc (suc (suc (suc (suc (suc (suc (suc zero)))))))) a b = of-close
+  of-signal (suc (suc (suc (suc (suc (suc (suc (suc zero)))))))) a b = by-naming ends _ book p _ (of-leaving _)
   of-signal (suc (suc (suc (suc (suc (suc (suc (suc (suc zero))))))))) a b = clash refl b
-  of-signal (suc (suc (suc (suc (suc (suc (suc (suc (suc (suc zero)))))))))) a b = of-abort
-  of-signal (suc (suc (suc (suc (suc (suc (suc (suc (suc (suc (suc zero))))))))))) a b = of-security
-  of-signal (suc (suc (suc (suc (suc (suc (suc (suc (suc (suc (suc (suc zero)))))))))))) a b = of-capabilities shownBy0C
-  of-signal (suc (suc (suc (suc (suc (suc (suc (suc (suc (suc (suc (suc (suc zero))))))))))))) a b = of-delay
+  of-signal (suc (suc (suc (suc (suc (suc (suc (suc (suc (suc zero)))))))))) a b = by-naming ends _ book p _ (of-leaving _)
+  of-signal (suc (suc (suc (suc (suc (suc (suc (suc (suc (suc (suc zero))))))))))) a b =
+      by-naming ends _ book p _ (λ i n. by-staying ends _)
+  of-signal (suc (suc (suc (suc (suc (suc (suc (suc (suc (suc (suc (suc zero)))))))))))) a b =
+      by-naming ends _ book p _ (λ i n. by-staying ends _)
+  of-signal (suc (suc (suc (suc (suc (suc (suc (suc (suc (suc (suc (suc (suc zero))))))))))))) a b =
+      by-naming ends _ book p _ of-delay
   of-signal (suc (suc (suc (suc (suc (suc (suc (suc (suc (suc (suc (suc (suc (suc n)))))))))))))) a b =
       by-staying ends generalReject
 
 -- ---- Messages
 
-not-empty : (may : Endpoint → Bool) (to : State) (book : Book) (ends : Ends) (o : ℕ) (os : List ℕ)
-  → turn may to book ends (o ∷ os) ≡ turnEach may to book ends (o ∷ os)
-unfolding turn
-not-empty may to book ends o os = rw (eqb·suc-zero (length os))
-
-turn-stops : (may : Endpoint → Bool) (to : State) (book : Book) (ends : Ends) (o : ℕ) (os : List ℕ)
-  → isAccept (turn may to book ends (o ∷ os) .reply) ≡ false → Stopped may to book ends (o ∷ os) (turn may to book ends (o ∷ os))
-turn-stops may to book ends o os = rw not-empty (stops-first may to book ends (o ∷ os))
-
 -- A Start or a Suspend that lists something and is not accepted is stopped at the first that failed.
 pub start-stops : (book : Book) (ends : Ends) (label o : ℕ) (os : List ℕ)
   → let m : Message = record { label = label; type = 0; signal = 0x07; payload = o ∷ os } in
-    isAccept (answer book ends m .reply) ≡ false → Stopped mayStart Streaming book ends (o ∷ os) (answer book ends m)
-unfolding answer obey signalOf
-start-stops book ends label o os = turn-stops mayStart Streaming book ends o os
+    isAccept (answer book ends m .reply) ≡ false → Stopped Start Streaming book ends (o ∷ os) (answer book ends m)
+unfolding answer obey signalOf shift lengthRight wrongState
+start-stops book ends label o os =
+    rw (le-leb 1 (length (o ∷ os)) (omega arith)) (stops-first Start Streaming book (λ s. refl) ends (o ∷ os))
 
 pub suspend-stops : (book : Book) (ends : Ends) (label o : ℕ) (os : List ℕ)
   → let m : Message = record { label = label; type = 0; signal = 0x09; payload = o ∷ os } in
-    isAccept (answer book ends m .reply) ≡ false → Stopped maySuspend Open book ends (o ∷ os) (answer book ends m)
-unfolding answer obey signalOf
-suspend-stops book ends label o os = turn-stops maySuspend Open book ends o os
+    isAccept (answer book ends m .reply) ≡ false → Stopped Suspend Open book ends (o ∷ os) (answer book ends m)
+unfolding answer obey signalOf shift lengthRight wrongState
+suspend-stops book ends label o os =
+    rw (le-leb 1 (length (o ∷ os)) (omega arith)) (stops-first Suspend Open book (λ s. refl) ends (o ∷ os))
 
 -- One that lists nothing is rejected with SEID 0 and moves none.
 pub start-of-none : (book : Book) (ends : Ends) (label : ℕ)
   → answer book ends (record { label = label; type = 0; signal = 0x07; payload = [] }) ≡ stays ends (reject (0 ∷ 0x11 ∷ []))
-unfolding answer obey signalOf turn rejectSeid
+unfolding answer obey signalOf shift lengthRight rejects
 start-of-none book ends label = refl
 
 pub suspend-of-none : (book : Book) (ends : Ends) (label : ℕ)
   → answer book ends (record { label = label; type = 0; signal = 0x09; payload = [] }) ≡ stays ends (reject (0 ∷ 0x11 ∷ []))
-unfolding answer obey signalOf turn rejectSeid
+unfolding answer obey signalOf shift lengthRight rejects
 suspend-of-none book ends label = refl
 
 or-no-l : (a b : Bool) → a || b ≡ false → a ≡ false
@@ -300,14 +254,15 @@ or-no-r : (a b : Bool) → a || b ≡ false → b ≡ false
 or-no-r true b e = clash refl e
 or-no-r false b e = e
 
-answer-stays : (book : Book) (ends : Ends) (m : Message) → turns m ≡ false → Told? (eqb (m .type) 0) → Unmoved ends (answer book ends m)
-unfolding turns answer
+answer-stays : (book : Book) (ends : Ends) (m : Message) → shifts m ≡ false → Told? (eqb (m .type) 0)
+  → Unmoved ends (answer book ends m)
+unfolding shifts answer
 answer-stays book ends m t (passed q) =
     let s : eqb (m .signal) 0x07 || eqb (m .signal) 0x09 ≡ false = rw q at t in
     rw q (of-signal book ends (m .payload) (m .signal) (or-no-l _ _ s) (or-no-r (eqb (m .signal) 0x07) _ s))
 answer-stays book ends m t (failed q) = rw q (by-staying ends silence)
 
 -- Any other command that is not accepted (a reject, a general reject, silence) and any message that is no command moves none.
-pub unmoved : (book : Book) (ends : Ends) (m : Message) → turns m ≡ false → isAccept (answer book ends m .reply) ≡ false
+pub unmoved : (book : Book) (ends : Ends) (m : Message) → shifts m ≡ false → isAccept (answer book ends m .reply) ≡ false
   → answer book ends m .ends ≡ ends
 unmoved book ends m t e = answer-stays book ends m t (told (eqb (m .type) 0)) .stayed e

@@ -3,39 +3,39 @@
 use Prim.Native.Nat.{ℕ, zero, suc}
 use mathlib.Core.Path.{_≡_, refl, sym, ap, _∙_}
 use mathlib.Core.List.{List, [], _∷_, map}
-use mathlib.Core.Bool.{Bool, true, false, not, _&&_, _||_}
+use mathlib.Core.Bool.{Bool, true, false, not, _&&_}
 use lib.ListN.{length, drop, getD, set}
 use lib.Dec.{eqb}
 use borrow.Author.Tests.{eqb-true, not-false}
 use Rattle.rules.proofs.Tests.{clash, and-l, and-r, and-both, not-passed}
 use Rattle.rules.proofs.Storable.{stored-has, restored-has-8}
-use Rattle.rules.proofs.Outcomes.{if-arms, found-arms, endpoint-arms}
+use Rattle.rules.proofs.Outcomes.{if-arms, named-arms, shift-arms}
 use Rattle.rules.proofs.AlikeStep.{forgoes, message-forgoes}
 use Rattle.rules.specs.Octets.{member, some-of, each-of}
 use Rattle.rules.specs.Elements.{Item, items, itemsPast, faultIn, has, offerable}
 use Rattle.rules.specs.Elements.{stored, restored}
 use Rattle.rules.specs.Book.{Entry, Book, Found, unknown, known, find}
 use Rattle.rules.specs.Packets.{Message}
-use Rattle.rules.specs.Endpoints.{Endpoint, Ends, Connection, idle, freshEnds, isAwaited, isUp, isIdle, isReported}
+use Rattle.rules.specs.Endpoints.{Endpoint, Ends, Connection, idle, freshEnds, isAwaited, isUp, isReported}
 use Rattle.rules.specs.Endpoints.{farRight, inState, withChannel, withConfig, forgotten, leaving, endAt, awaiting}
 use Rattle.rules.specs.Endpoints.{upIn, withEnds, Moved, downAt, happens}
-use Rattle.rules.specs.Commands.{Reply, Outcome, stays, moves, farIn, isConfigured, isOpen, isStreaming, discover}
-use Rattle.rules.specs.Commands.{capabilities, settled, setAt, setConfiguration, getConfiguration, reconfigureAt}
-use Rattle.rules.specs.Commands.{reconfigure, openUp, mayStart, maySuspend, turnOne, turnEach, turn, close, abort}
-use Rattle.rules.specs.Commands.{securityControl}
-use Rattle.rules.specs.Commands.{Signal, Discover, GetCapabilities, SetConfiguration, GetConfiguration, Reconfigure, OpenUp}
-use Rattle.rules.specs.Commands.{Start, Close, Suspend, Abort, SecurityControl, GetAllCapabilities, DelayReport, Unassigned}
-use Rattle.rules.specs.Commands.{signalOf, obey, answer}
+use Rattle.rules.specs.Commands.{Reply, Outcome, stays, moves, lengthRight, ourIn, farIn, named, discover, offersAt, settled}
+use Rattle.rules.specs.Commands.{setAt, configurationAt, reconfigureAt, openAt, shiftEach, shift, leaveAt, securityAt, signalOf}
+use Rattle.rules.specs.Commands.{obey, answer}
 use Rattle.rules.specs.Alike.{usesDelay, noneReported}
 use Rattle.rules.specs.declared.OurSeid.{OurSeid}
 use Rattle.rules.specs.declared.Rule.the-variants.{Setting, Reconfiguring}
 use Rattle.rules.specs.declared.FarSeid.{FarSeid}
 use Rattle.rules.specs.declared.State.{State}
-use Rattle.rules.specs.declared.State.the-variants.{Open, Streaming, Closing, Aborting}
+use Rattle.rules.specs.declared.State.the-variants.{Open}
 use Rattle.rules.specs.declared.Channel.{Channel}
 use Rattle.rules.specs.declared.Channel.the-variants.{Awaited, Up}
 use Rattle.rules.specs.declared.Event.{Event}
 use Rattle.rules.specs.declared.Event.the-variants.{Down, Lost}
+use Rattle.rules.specs.declared.Signal.{Signal}
+use Rattle.rules.specs.declared.Signal.the-variants.{Discover, GetCapabilities, SetConfiguration, GetConfiguration, Reconfigure}
+use Rattle.rules.specs.declared.Signal.the-variants.{OpenUp, Start, Close, Suspend, Abort, SecurityControl}
+use Rattle.rules.specs.declared.Signal.the-variants.{GetAllCapabilities, DelayReport, Unassigned}
 
 -- ---- A test of each of a list
 
@@ -143,82 +143,67 @@ module _ (ends : Ends) (q : quietEnds ends ≡ true) where
   set-at-quiet : (p : List ℕ) → has 8 (items (drop 2 p)) ≡ false → (i : ℕ) (n : Entry) → Quiet (setAt ends p i n)
   unfolding setAt
   set-at-quiet p unasked i n =
-      if-arms Quiet (not (isIdle (endAt ends i .state))) _ _ (λ t. stays-quiet _)
-        λ t. if-arms Quiet (not (farRight (farIn (getD p 1 0)))) _ _ (λ t. stays-quiet _)
-          λ t. if-arms Quiet (not (eqb (faultIn Setting (items (n .caps)) (items (drop 2 p)) .code) 0)) _ _ (λ t. stays-quiet _)
-            λ t. moves-quiet i _ (settled-quiet (endAt ends i) (farIn (getD p 1 0)) (items (drop 2 p)) unasked)
+      if-arms Quiet (not (farRight (farIn (getD p 1 0)))) _ _ (λ t. stays-quiet _)
+        λ t. if-arms Quiet (not (eqb (faultIn Setting (items (n .caps)) (items (drop 2 p)) .code) 0)) _ _ (λ t. stays-quiet _)
+          λ t. moves-quiet i _ (settled-quiet (endAt ends i) (farIn (getD p 1 0)) (items (drop 2 p)) unasked)
 
   reconfigure-at-quiet : (p : List ℕ) (i : ℕ) (n : Entry) → Quiet (reconfigureAt ends p i n)
   unfolding reconfigureAt
   reconfigure-at-quiet p i n =
       let fault = faultIn Reconfiguring (items (n .caps)) (items (drop 1 p)) in
-      if-arms Quiet (isIdle (endAt ends i .state)) _ _ (λ t. stays-quiet _)
-        λ t. if-arms Quiet (not (isOpen (endAt ends i .state))) _ _ (λ t. stays-quiet _)
-          λ t. if-arms Quiet (not (eqb (fault .code) 0)) _ _ (λ t. stays-quiet _)
-            λ t. moves-quiet i _
-              (restored-quiet (endAt ends i) (items (n .caps)) (items (drop 1 p))
-                 (eqb-true (fault .code) 0 (not-false (eqb (fault .code) 0) t)) (at-quiet ends i q))
+      if-arms Quiet (not (eqb (fault .code) 0)) _ _ (λ t. stays-quiet _)
+        λ t. moves-quiet i _
+          (restored-quiet (endAt ends i) (items (n .caps)) (items (drop 1 p))
+             (eqb-true (fault .code) 0 (not-false (eqb (fault .code) 0) t)) (at-quiet ends i q))
 
-  open-up-quiet : (book : Book) (p : List ℕ) → Quiet (openUp book ends p)
-  unfolding openUp
-  open-up-quiet book p =
-      endpoint-arms Quiet _ _ book ends p _ (λ code. stays-quiet _) λ i n there.
-        if-arms Quiet (isConfigured (endAt ends i .state) && eqb (awaiting ends) 0) _ _
-          (λ t. moves-quiet i _
-             (with-channel-quiet Awaited (inState Open (endAt ends i)) (in-state-quiet Open (endAt ends i) (at-quiet ends i q))))
-          (λ t. stays-quiet _)
+  open-at-quiet : (i : ℕ) (n : Entry) → Quiet (openAt ends i n)
+  unfolding openAt
+  open-at-quiet i n =
+      if-arms Quiet (eqb (awaiting ends) 0) _ _
+        (λ t. moves-quiet i _
+           (with-channel-quiet Awaited (inState Open (endAt ends i)) (in-state-quiet Open (endAt ends i) (at-quiet ends i q))))
+        (λ t. stays-quiet _)
 
-  close-quiet : (book : Book) (p : List ℕ) → Quiet (close book ends p)
-  unfolding close
-  close-quiet book p =
-      endpoint-arms Quiet _ _ book ends p _ (λ code. stays-quiet _) λ i n there.
-        if-arms Quiet (isOpen (endAt ends i .state) || isStreaming (endAt ends i .state)) _ _
-          (λ t. moves-quiet i _ (leaving-quiet Closing (endAt ends i) (at-quiet ends i q)))
-          (λ t. stays-quiet _)
+  leave-at-quiet : (to : State) (i : ℕ) (n : Entry) → Quiet (leaveAt to ends i n)
+  unfolding leaveAt
+  leave-at-quiet to i n = moves-quiet i _ (leaving-quiet to (endAt ends i) (at-quiet ends i q))
 
-  abort-quiet : (book : Book) (p : List ℕ) → Quiet (abort book ends p)
-  unfolding abort
-  abort-quiet book p =
-      endpoint-arms Quiet _ _ book ends p _ (λ code. stays-quiet _) λ i n there.
-        moves-quiet i _ (leaving-quiet Aborting (endAt ends i) (at-quiet ends i q))
+shift-each-quiet : (signal : Signal) (to : State) (book : Book) (ends : Ends) (os : List ℕ) → quietEnds ends ≡ true
+    → Quiet (shiftEach signal to book ends os)
+unfolding shiftEach
+shift-each-quiet signal to book ends [] q = stays-quiet ends q _
+shift-each-quiet signal to book ends (o ∷ os) q =
+    shift-arms signal book ends Quiet to (ourIn o) _ (λ code. stays-quiet ends q _) λ i n there m.
+      shift-each-quiet signal to book (set ends i (inState to (endAt ends i))) os
+        (set-quiet ends i (inState to (endAt ends i)) q (in-state-quiet to (endAt ends i) (at-quiet ends i q)))
 
-turn-each-quiet : (may : Endpoint → Bool) (to : State) (book : Book) (ends : Ends) (os : List ℕ) → quietEnds ends ≡ true
-    → Quiet (turnEach may to book ends os)
-unfolding turnEach turnOne
-turn-each-quiet may to book ends [] q = stays-quiet ends q _
-turn-each-quiet may to book ends (o ∷ os) q =
-    found-arms Quiet o book _ _ (stays-quiet ends q _) λ i n there.
-      if-arms Quiet (may (endAt ends i)) _ _
-        (λ t. turn-each-quiet may to book (set ends i (inState to (endAt ends i))) os
-                (set-quiet ends i (inState to (endAt ends i)) q (in-state-quiet to (endAt ends i) (at-quiet ends i q))))
-        (λ t. stays-quiet ends q _)
+shift-quiet : (signal : Signal) (to : State) (book : Book) (ends : Ends) (p : List ℕ) → quietEnds ends ≡ true
+    → Quiet (shift signal to book ends p)
+unfolding shift
+shift-quiet signal to book ends p q =
+    if-arms Quiet (lengthRight signal (length p)) _ _ (λ t. shift-each-quiet signal to book ends p q) (λ t. stays-quiet ends q _)
 
-turn-quiet : (may : Endpoint → Bool) (to : State) (book : Book) (ends : Ends) (p : List ℕ) → quietEnds ends ≡ true
-    → Quiet (turn may to book ends p)
-unfolding turn
-turn-quiet may to book ends p q =
-    if-arms Quiet (eqb (length p) 0) _ _ (λ t. stays-quiet ends q _) (λ t. turn-each-quiet may to book ends p q)
+-- a command that names one endpoint
+named-quiet : (signal : Signal) (book : Book) (ends : Ends) (p : List ℕ) (on : ℕ → Entry → Outcome) → quietEnds ends ≡ true
+    → ((i : ℕ) (n : Entry) → Quiet (on i n)) → Quiet (named signal book ends p on)
+named-quiet signal book ends p on q there =
+    named-arms signal book ends Quiet p on (λ code. stays-quiet ends q _) (λ i n a m. there i n)
 
 obey-quiet : (s : Signal) (book : Book) (ends : Ends) (p : List ℕ) → quietEnds ends ≡ true → forgoes s p ≡ true
     → Quiet (obey s book ends p)
-unfolding obey forgoes discover capabilities setConfiguration getConfiguration reconfigure securityControl
+unfolding obey forgoes discover offersAt configurationAt securityAt
 obey-quiet Discover book ends p q ok = stays-quiet ends q _
-obey-quiet GetCapabilities book ends p q ok =
-    endpoint-arms Quiet _ _ book ends p _ (λ code. stays-quiet ends q _) λ i n there. stays-quiet ends q _
+obey-quiet GetCapabilities book ends p q ok = named-quiet _ book ends p _ q (λ i n. stays-quiet ends q _)
 obey-quiet SetConfiguration book ends p q ok =
-    endpoint-arms Quiet _ _ book ends p _ (λ code. stays-quiet ends q _)
-      λ i n there. set-at-quiet ends q p (not-passed (has 8 (items (drop 2 p))) ok) i n
-obey-quiet GetConfiguration book ends p q ok =
-    endpoint-arms Quiet _ _ book ends p _ (λ code. stays-quiet ends q _) λ i n there. stays-quiet ends q _
-obey-quiet Reconfigure book ends p q ok =
-    endpoint-arms Quiet _ _ book ends p _ (λ code. stays-quiet ends q _) λ i n there. reconfigure-at-quiet ends q p i n
-obey-quiet OpenUp book ends p q ok = open-up-quiet ends q book p
-obey-quiet Start book ends p q ok = turn-quiet mayStart Streaming book ends p q
-obey-quiet Close book ends p q ok = close-quiet ends q book p
-obey-quiet Suspend book ends p q ok = turn-quiet maySuspend Open book ends p q
-obey-quiet Abort book ends p q ok = abort-quiet ends q book p
-obey-quiet SecurityControl book ends p q ok =
-    endpoint-arms Quiet _ _ book ends p _ (λ code. stays-quiet ends q _) λ i n there. stays-quiet ends q _
+    named-quiet _ book ends p _ q (set-at-quiet ends q p (not-passed (has 8 (items (drop 2 p))) ok))
+obey-quiet GetConfiguration book ends p q ok = named-quiet _ book ends p _ q (λ i n. stays-quiet ends q _)
+obey-quiet Reconfigure book ends p q ok = named-quiet _ book ends p _ q (reconfigure-at-quiet ends q p)
+obey-quiet OpenUp book ends p q ok = named-quiet _ book ends p _ q (open-at-quiet ends q)
+obey-quiet Start book ends p q ok = shift-quiet _ _ book ends p q
+obey-quiet Close book ends p q ok = named-quiet _ book ends p _ q (leave-at-quiet ends q _)
+obey-quiet Suspend book ends p q ok = shift-quiet _ _ book ends p q
+obey-quiet Abort book ends p q ok = named-quiet _ book ends p _ q (leave-at-quiet ends q _)
+obey-quiet SecurityControl book ends p q ok = named-quiet _ book ends p _ q (λ i n. stays-quiet ends q _)
 obey-quiet GetAllCapabilities book ends p q ok = clash refl (sym ok)
 obey-quiet DelayReport book ends p q ok = clash refl (sym ok)
 obey-quiet Unassigned book ends p q ok = stays-quiet ends q _

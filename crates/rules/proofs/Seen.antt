@@ -14,7 +14,7 @@ use Rattle.rules.specs.Commands.{Reply, silence, generalReject, accept, 
 use Rattle.rules.specs.Host.{toldOf, said, turnOf, takes, packetCall}
 use Rattle.rules.specs.Sessions.{Call, packet, Answer, number, told, shown, heard, counted, cutOff, call, answered, after}
 use Rattle.rules.specs.Views.{Stepped, packetNumber, says, goes}
-use Rattle.rules.specs.Moves.{isAccept, turnsIn}
+use Rattle.rules.specs.Moves.{isAccept, shiftsIn}
 use Rattle.rules.specs.declared.State.the-variants.{Idle}
 use Rattle.rules.proofs.Tests.{Told?, passed, failed, told as told?, clash, and-l, and-r}
 use Rattle.rules.proofs.StaysLegal.{legal-ends, idle-forgets}
@@ -48,13 +48,13 @@ type-of m generalReject h = refl
 type-of m (accept p) h = absurd (h refl)
 type-of m (reject p) h = refl
 
-turn-unmoved : (book : Book) (ends : Ends) (g : Option Gathering) (m : Option Message) → turnsIn m ≡ false
+turn-unmoved : (book : Book) (ends : Ends) (g : Option Gathering) (m : Option Message) → shiftsIn m ≡ false
   → (turnOf book ends g m .told .type ≡ 2 → ⊥) → turnOf book ends g m .connection .ends ≡ ends
-unfolding turnOf turnsIn
+unfolding turnOf shiftsIn
 turn-unmoved book ends g none t h = refl
 turn-unmoved book ends g (some m) t h = unmoved book ends m t (type-of m (answer book ends m .reply) h)
 
-takes-unmoved : (book : Book) (size : ℕ) (c : Connection) (p : List ℕ) → turnsIn (gather size (c .gathering) p .done) ≡ false
+takes-unmoved : (book : Book) (size : ℕ) (c : Connection) (p : List ℕ) → shiftsIn (gather size (c .gathering) p .done) ≡ false
   → (takes book size c p .told .type ≡ 2 → ⊥) → takes book size c p .connection .ends ≡ c .ends
 unfolding takes
 takes-unmoved book size c p =
@@ -79,14 +79,14 @@ module _ (b : List ℕ) (size : ℕ) (saved p reply : List ℕ) (ok : bookNumber
   step = view-step b ok saved start (record { right = right; shows = refl }) (packet size p reply)
 
   -- A packet that completes no Start and no Suspend and is not answered with an accept moves no endpoint.
-  packet-stays : Told? (eqb (packetNumber size reply) 0) → turnsIn (gather size (start .gathering) p .done) ≡ false
+  packet-stays : Told? (eqb (packetNumber size reply) 0) → shiftsIn (gather size (start .gathering) p .done) ≡ false
     → (packetCall b size saved p reply .told .type ≡ 2 → ⊥) → goes (bookOf b) start (packet size p reply) .ends ≡ start .ends
   unfolding goes says call answered typeIn
   packet-stays (failed refused) t h = rw refused
   packet-stays (passed taken) t h =
       rw taken (takes-unmoved (bookOf b) size start p t (λ e. h (ap typeIn (step .answer) ∙ rw taken e)))
 
-  pub packet-unmoved : turnsIn (gather size (connectionIn (length (bookOf b)) saved .gathering) p .done) ≡ false
+  pub packet-unmoved : shiftsIn (gather size (connectionIn (length (bookOf b)) saved .gathering) p .done) ≡ false
     → (packetCall b size saved p reply .told .type ≡ 2 → ⊥)
     → connectionIn (length (bookOf b)) (packetCall b size saved p reply .saved) .ends
       ≡ connectionIn (length (bookOf b)) saved .ends

@@ -5,7 +5,7 @@ use native.Mathlib.Nat.{le-trans}
 use native.Mathlib.Omega.{arith}
 use mathlib.Core.Path.{_≡_, refl, sym}
 use mathlib.Core.List.{List, [], _∷_}
-use mathlib.Core.Bool.{Bool, true, not, _&&_, _||_}
+use mathlib.Core.Bool.{true, not}
 use mathlib.Core.Option.{Option, none, some}
 use lib.ListN.{length, drop, getD}
 use lib.Dec.{leb, eqb, lit≤}
@@ -16,27 +16,23 @@ use Rattle.rules.specs.Book.{Entry, Book, shownBy02, shownBy0C}
 use Rattle.rules.specs.Packets.{Message, Gathering, gather}
 use Rattle.rules.specs.Endpoints.{Endpoint, Ends, Connection, isIdle, keepsNothing, legalEnd, legalEnds, awaiting}
 use Rattle.rules.specs.Endpoints.{takesDelay, farRight, endAt, legal}
-use Rattle.rules.specs.Commands.{Reply, silence, generalReject, accept, Outcome, stays, moves, rejectBare, rejectElement}
-use Rattle.rules.specs.Commands.{rejectPlain, rejectSeid, farIn, isConfigured, isOpen, isStreaming, isSet, discovered}
-use Rattle.rules.specs.Commands.{discover}
-use Rattle.rules.specs.Commands.{capabilities, setAt, setConfiguration, getConfiguration, reconfigureAt, reconfigure}
-use Rattle.rules.specs.Commands.{openUp, mayStart, maySuspend, turnOne, turnEach, turn, close, abort, securityControl}
-use Rattle.rules.specs.Commands.{delayReport, Signal, Discover, GetCapabilities, SetConfiguration, GetConfiguration}
-use Rattle.rules.specs.Commands.{Reconfigure, OpenUp, Start, Close, Suspend, Abort, SecurityControl, GetAllCapabilities}
-use Rattle.rules.specs.Commands.{DelayReport, Unassigned, signalOf, obey, answer}
+use Rattle.rules.specs.Commands.{Reply, silence, generalReject, accept, Outcome, stays, moves, rejects, rejectsFault, lengthRight}
+use Rattle.rules.specs.Commands.{ourIn, farIn, discovered, discover, offersAt, setAt, configurationAt, reconfigureAt, openAt}
+use Rattle.rules.specs.Commands.{shiftEach, shift, leaveAt, securityAt, delayAt, signalOf, obey, answer}
 use Rattle.rules.specs.Host.{payloadOf, turnOf, takes}
-use Rattle.rules.specs.declared.OurSeid.{OurSeid}
 use Rattle.rules.specs.declared.Rule.the-variants.{Setting, Reconfiguring}
-use Rattle.rules.specs.declared.Fault.{Fault}
 use Rattle.rules.specs.declared.State.{State}
-use Rattle.rules.specs.declared.State.the-variants.{Streaming, Open}
+use Rattle.rules.specs.declared.Signal.{Signal}
+use Rattle.rules.specs.declared.Signal.the-variants.{Discover, GetCapabilities, SetConfiguration, GetConfiguration, Reconfigure}
+use Rattle.rules.specs.declared.Signal.the-variants.{OpenUp, Start, Close, Suspend, Abort, SecurityControl}
+use Rattle.rules.specs.declared.Signal.the-variants.{GetAllCapabilities, DelayReport, Unassigned}
 use Rattle.rules.proofs.Tests.{Told?, told, passed, failed, clash, and-l, and-r, and-both}
 use Rattle.rules.proofs.Lists.{shown-length}
 use Rattle.rules.proofs.Storable.{could-short}
 use Rattle.rules.proofs.SavedReads.{shortConfigs}
 use Rattle.rules.proofs.Places.{At, here, there, legal-at}
 use Rattle.rules.proofs.RightBook.{entryRight, RightBook}
-use Rattle.rules.proofs.Outcomes.{if-arms, found-arms, endpoint-arms}
+use Rattle.rules.proofs.Outcomes.{if-arms, named-arms, shift-arms}
 use Rattle.rules.proofs.LegalMoves.{idle-keeps, busy-keeps, keeps-config}
 use Rattle.rules.proofs.StaysLegal.{legal-ends, empty-is}
 
@@ -95,21 +91,25 @@ silence-short : (ends : Ends) → Short (stays ends silence)
 unfolding stays payloadOf
 silence-short ends = lit≤ tt
 
-bare-short : (ends : Ends) (code : ℕ) → Short (stays ends (rejectBare code))
-unfolding stays payloadOf rejectBare
-bare-short ends code = lit≤ tt
+rejects-length : (signal : Signal) (what code : ℕ) → ShortReply (rejects signal what code)
+unfolding rejects payloadOf
+rejects-length Discover what code = lit≤ tt
+rejects-length GetCapabilities what code = lit≤ tt
+rejects-length SetConfiguration what code = lit≤ tt
+rejects-length GetConfiguration what code = lit≤ tt
+rejects-length Reconfigure what code = lit≤ tt
+rejects-length OpenUp what code = lit≤ tt
+rejects-length Start what code = lit≤ tt
+rejects-length Close what code = lit≤ tt
+rejects-length Suspend what code = lit≤ tt
+rejects-length Abort what code = lit≤ tt
+rejects-length SecurityControl what code = lit≤ tt
+rejects-length GetAllCapabilities what code = lit≤ tt
+rejects-length DelayReport what code = lit≤ tt
+rejects-length Unassigned what code = lit≤ tt
 
-element-short : (ends : Ends) (f : Fault) → Short (stays ends (rejectElement f))
-unfolding stays payloadOf rejectElement
-element-short ends f = lit≤ tt
-
-plain-short : (ends : Ends) (code : ℕ) → Short (stays ends (rejectPlain code))
-unfolding stays payloadOf rejectElement rejectPlain
-plain-short ends code = lit≤ tt
-
-seid-short : (ends : Ends) (s : OurSeid) (code : ℕ) → Short (stays ends (rejectSeid s code))
-unfolding stays payloadOf rejectSeid
-seid-short ends s code = lit≤ tt
+rejects-short : (ends : Ends) (signal : Signal) (what code : ℕ) → Short (stays ends (rejects signal what code))
+rejects-short ends signal what code = stays-short ends (rejects signal what code) (rejects-length signal what code)
 
 discovered-length : (book : Book) (ends : Ends) → length (discovered book ends) ≤ length book + length book
 unfolding discovered
@@ -117,119 +117,88 @@ discovered-length [] ends = omega arith
 discovered-length (n ∷ book) [] = omega arith
 discovered-length (n ∷ book) (e ∷ ends) = let h = discovered-length book ends in omega arith
 
+module _ (ends : Ends) (p : List ℕ) (i : ℕ) (n : Entry) where
+  set-at-short : Short (setAt ends p i n)
+  unfolding setAt rejectsFault
+  set-at-short =
+      let fault = faultIn Setting (items (n .caps)) (items (drop 2 p)) in
+      if-arms Short (not (farRight (farIn (getD p 1 0)))) _ _ (λ t. rejects-short ends _ _ _) λ f.
+      if-arms Short (not (eqb (fault .code) 0)) _ _ (λ t. rejects-short ends _ _ _) λ f. moves-short ends i _
+
+  reconfigure-at-short : Short (reconfigureAt ends p i n)
+  unfolding reconfigureAt rejectsFault
+  reconfigure-at-short =
+      let fault = faultIn Reconfiguring (items (n .caps)) (items (drop 1 p)) in
+      if-arms Short (not (eqb (fault .code) 0)) _ _ (λ t. rejects-short ends _ _ _) λ f. moves-short ends i _
+
+  open-at-short : Short (openAt ends i n)
+  unfolding openAt
+  open-at-short = if-arms Short (eqb (awaiting ends) 0) _ _ (λ t. moves-short ends i _) (λ f. rejects-short ends _ _ _)
+
+  delay-at-short : Short (delayAt ends p i n)
+  unfolding delayAt
+  delay-at-short =
+      if-arms Short (not (takesDelay n (endAt ends i))) _ _ (λ t. rejects-short ends _ _ _) (λ f. moves-short ends i _)
+
+module _ (signal : Signal) (to : State) (book : Book) where
+  shift-each-short : (os : List ℕ) (ends : Ends) → Short (shiftEach signal to book ends os)
+  unfolding shiftEach payloadOf
+  shift-each-short [] ends = stays-short ends (accept []) (lit≤ tt)
+  shift-each-short (o ∷ os) ends =
+      shift-arms signal book ends Short to (ourIn o) _ (λ code. rejects-short ends _ _ _) (λ i n a m. shift-each-short os _)
+
+  shift-short : (ends : Ends) (p : List ℕ) → Short (shift signal to book ends p)
+  unfolding shift
+  shift-short ends p =
+      if-arms Short (lengthRight signal (length p)) _ _ (λ t. shift-each-short p ends) (λ f. rejects-short ends _ _ _)
+
 module _ (book : Book) (ends : Ends) (right : RightBook book) (h : legalEnds book ends ≡ true) where
   discover-short : (p : List ℕ) → Short (discover book ends p)
-  unfolding discover payloadOf rejectBare
+  unfolding discover payloadOf
   discover-short p =
       let most = discovered-length book ends in
       let few = right .few in
-      stays-short ends _ (if-arms ShortReply (eqb (length p) 0) (accept (discovered book ends)) (rejectBare 0x11)
-        (λ t. omega arith) (λ f. lit≤ tt))
+      stays-short ends _ (if-arms ShortReply (lengthRight Discover (length p)) (accept (discovered book ends))
+        (rejects Discover 0 0x11) (λ t. omega arith) (λ f. rejects-length Discover 0 0x11))
 
-  capabilities-short : (shown : Entry → List ℕ) → ((n : Entry) → length (shown n) ≤ length (n .caps)) → (p : List ℕ)
-      → Short (capabilities shown book ends p)
-  unfolding capabilities payloadOf
-  capabilities-short shown within p =
-      endpoint-arms Short rejectBare (eqb (length p) 1) book ends p _ (bare-short ends) λ i n a.
+  offers-at-short : (shown : Entry → List ℕ) → ((n : Entry) → length (shown n) ≤ length (n .caps)) → (i : ℕ) (n : Entry)
+      → At book i n → Short (offersAt shown ends i n)
+  unfolding offersAt payloadOf
+  offers-at-short shown within i n a =
       stays-short ends _ (le-trans (within n) (caps-short n (entry-at a (right .entries))))
 
-  set-at-short : (p : List ℕ) (i : ℕ) (n : Entry) → Short (setAt ends p i n)
-  unfolding setAt
-  set-at-short p i n =
-      let far = farIn (getD p 1 0) in
-      let fault = faultIn Setting (items (n .caps)) (items (drop 2 p)) in
-      if-arms Short (not (isIdle (endAt ends i .state))) _ _ (λ t. plain-short ends _) λ f.
-      if-arms Short (not (farRight far)) _ _ (λ t. plain-short ends _) λ f.
-      if-arms Short (not (eqb (fault .code) 0)) _ _ (λ t. element-short ends _) λ f. moves-short ends i _
+  configuration-at-short : (i : ℕ) (n : Entry) → At book i n → Short (configurationAt ends i n)
+  unfolding configurationAt payloadOf
+  configuration-at-short i n a =
+      stays-short ends _ (end-short n (endAt ends i) (entry-at a (right .entries)) (legal-at a ends h))
 
-  set-configuration-short : (p : List ℕ) → Short (setConfiguration book ends p)
-  unfolding setConfiguration
-  set-configuration-short p =
-      endpoint-arms Short rejectPlain (leb 2 (length p)) book ends p _ (plain-short ends) (λ i n a. set-at-short p i n)
-
-  get-configuration-short : (p : List ℕ) → Short (getConfiguration book ends p)
-  unfolding getConfiguration payloadOf rejectBare
-  get-configuration-short p =
-      endpoint-arms Short rejectBare (eqb (length p) 1) book ends p _ (bare-short ends) λ i n a.
-      let e = endAt ends i in
-      stays-short ends _ (if-arms ShortReply (isSet (e .state)) (accept (e .config)) (rejectBare 0x31)
-        (λ t. end-short n e (entry-at a (right .entries)) (legal-at a ends h)) (λ f. lit≤ tt))
-
-  reconfigure-at-short : (p : List ℕ) (i : ℕ) (n : Entry) → Short (reconfigureAt ends p i n)
-  unfolding reconfigureAt
-  reconfigure-at-short p i n =
-      let e = endAt ends i in
-      let fault = faultIn Reconfiguring (items (n .caps)) (items (drop 1 p)) in
-      if-arms Short (isIdle (e .state)) _ _ (λ t. plain-short ends _) λ f.
-      if-arms Short (not (isOpen (e .state))) _ _ (λ t. plain-short ends _) λ f.
-      if-arms Short (not (eqb (fault .code) 0)) _ _ (λ t. element-short ends _) λ f. moves-short ends i _
-
-  reconfigure-short : (p : List ℕ) → Short (reconfigure book ends p)
-  unfolding reconfigure
-  reconfigure-short p =
-      endpoint-arms Short rejectPlain (leb 3 (length p)) book ends p _ (plain-short ends)
-        (λ i n a. reconfigure-at-short p i n)
-
-  open-up-short : (p : List ℕ) → Short (openUp book ends p)
-  unfolding openUp
-  open-up-short p =
-      endpoint-arms Short rejectBare (eqb (length p) 1) book ends p _ (bare-short ends) λ i n a.
-      if-arms Short (isConfigured (endAt ends i .state) && eqb (awaiting ends) 0) _ _
-        (λ t. moves-short ends i _) (λ f. bare-short ends 0x31)
-
-  close-short : (p : List ℕ) → Short (close book ends p)
-  unfolding close
-  close-short p =
-      endpoint-arms Short rejectBare (eqb (length p) 1) book ends p _ (bare-short ends) λ i n a.
-      if-arms Short (isOpen (endAt ends i .state) || isStreaming (endAt ends i .state)) _ _
-        (λ t. moves-short ends i _) (λ f. bare-short ends 0x31)
-
-  abort-short : (p : List ℕ) → Short (abort book ends p)
-  unfolding abort
-  abort-short p =
-      endpoint-arms Short (λ code. silence) (eqb (length p) 1) book ends p _ (λ c. silence-short ends) λ i n a.
-      moves-short ends i _
-
-  security-control-short : (p : List ℕ) → Short (securityControl book ends p)
-  unfolding securityControl
-  security-control-short p =
-      endpoint-arms Short rejectBare (leb 1 (length p)) book ends p _ (bare-short ends) λ i n a. bare-short ends 0x19
-
-  delay-report-short : (p : List ℕ) → Short (delayReport book ends p)
-  unfolding delayReport
-  delay-report-short p =
-      endpoint-arms Short rejectBare (eqb (length p) 3) book ends p _ (bare-short ends) λ i n a.
-      if-arms Short (not (isSet (endAt ends i .state))) _ _ (λ t. bare-short ends 0x31) λ f.
-      if-arms Short (not (takesDelay n (endAt ends i))) _ _ (λ t. bare-short ends 0x19) λ f. moves-short ends i _
-
-module _ (may : Endpoint → Bool) (to : State) (book : Book) where
-  turn-each-short : (os : List ℕ) (ends : Ends) → Short (turnEach may to book ends os)
-  unfolding turnEach turnOne payloadOf
-  turn-each-short [] ends = stays-short ends (accept []) (lit≤ tt)
-  turn-each-short (o ∷ os) ends =
-      found-arms Short o book _ _ (seid-short ends _ _) λ i n a.
-      if-arms Short (may (endAt ends i)) _ _ (λ t. turn-each-short os _) (λ f. seid-short ends _ _)
-
-  turn-short : (ends : Ends) (p : List ℕ) → Short (turn may to book ends p)
-  unfolding turn
-  turn-short ends p = if-arms Short (eqb (length p) 0) _ _ (λ t. seid-short ends _ _) (λ f. turn-each-short p ends)
-
-module _ (book : Book) (ends : Ends) (right : RightBook book) (h : legalEnds book ends ≡ true) where
   obey-short : (s : Signal) (p : List ℕ) → Short (obey s book ends p)
-  unfolding obey shownBy02 shownBy0C payloadOf
-  obey-short Discover p = discover-short book ends right h p
-  obey-short GetCapabilities p = capabilities-short book ends right h shownBy02 (λ n. shown-length (n .caps)) p
-  obey-short SetConfiguration p = set-configuration-short book ends right h p
-  obey-short GetConfiguration p = get-configuration-short book ends right h p
-  obey-short Reconfigure p = reconfigure-short book ends right h p
-  obey-short OpenUp p = open-up-short book ends right h p
-  obey-short Start p = turn-short mayStart Streaming book ends p
-  obey-short Close p = close-short book ends right h p
-  obey-short Suspend p = turn-short maySuspend Open book ends p
-  obey-short Abort p = abort-short book ends right h p
-  obey-short SecurityControl p = security-control-short book ends right h p
-  obey-short GetAllCapabilities p = capabilities-short book ends right h shownBy0C (λ n. omega arith) p
-  obey-short DelayReport p = delay-report-short book ends right h p
+  unfolding obey leaveAt securityAt shownBy02 shownBy0C payloadOf
+  obey-short Discover p = discover-short p
+  obey-short GetCapabilities p =
+      named-arms _ book ends Short p _ (λ c. rejects-short ends _ _ _)
+        (λ i n a m. offers-at-short shownBy02 (λ n. shown-length (n .caps)) i n a)
+  obey-short SetConfiguration p =
+      named-arms _ book ends Short p _ (λ c. rejects-short ends _ _ _) (λ i n a m. set-at-short ends p i n)
+  obey-short GetConfiguration p =
+      named-arms _ book ends Short p _ (λ c. rejects-short ends _ _ _) (λ i n a m. configuration-at-short i n a)
+  obey-short Reconfigure p =
+      named-arms _ book ends Short p _ (λ c. rejects-short ends _ _ _) (λ i n a m. reconfigure-at-short ends p i n)
+  obey-short OpenUp p =
+      named-arms _ book ends Short p _ (λ c. rejects-short ends _ _ _) (λ i n a m. open-at-short ends p i n)
+  obey-short Start p = shift-short _ _ book ends p
+  obey-short Close p =
+      named-arms _ book ends Short p _ (λ c. rejects-short ends _ _ _) (λ i n a m. moves-short ends i _)
+  obey-short Suspend p = shift-short _ _ book ends p
+  obey-short Abort p =
+      named-arms _ book ends Short p _ (λ c. rejects-short ends _ _ _) (λ i n a m. moves-short ends i _)
+  obey-short SecurityControl p =
+      named-arms _ book ends Short p _ (λ c. rejects-short ends _ _ _) (λ i n a m. rejects-short ends _ _ _)
+  obey-short GetAllCapabilities p =
+      named-arms _ book ends Short p _ (λ c. rejects-short ends _ _ _)
+        (λ i n a m. offers-at-short shownBy0C (λ n. omega arith) i n a)
+  obey-short DelayReport p =
+      named-arms _ book ends Short p _ (λ c. rejects-short ends _ _ _) (λ i n a m. delay-at-short ends p i n)
   obey-short Unassigned p = stays-short ends generalReject (lit≤ tt)
 
   pub answer-short : (m : Message) → length (payloadOf (answer book ends m .reply)) ≤ 64

@@ -15,13 +15,13 @@ use Rattle.rules.specs.Book.{Book, bookNumber, bookOf}
 use Rattle.rules.specs.Packets.{Message, gather}
 use Rattle.rules.specs.Endpoints.{Ends, Connection}
 use Rattle.rules.specs.Saved.{areaFor, connectionIn, savedRight}
-use Rattle.rules.specs.Commands.{Reply, silence, generalReject, accept, reject, rejectSeid, Outcome, stays, signalOf}
+use Rattle.rules.specs.Commands.{Reply, silence, generalReject, accept, reject, rejects, Outcome, stays, signalOf}
 use Rattle.rules.specs.Commands.{obey, answer}
 use Rattle.rules.specs.Host.{Told, toldOf, said, nothingSaid, payloadOf, turnOf, takes, packetCall, freshCall}
 use Rattle.rules.specs.Sessions.{packet, event, Answer, number, told, shown, heard, counted, cutOff, call, answered}
 use Rattle.rules.specs.Sessions.{after}
 use Rattle.rules.specs.Views.{Stepped, packetNumber, says, goes}
-use Rattle.rules.specs.Moves.{Stopped, isAccept, turns, mayTurn, turnsTo, RejectSeen, StoppedSeen}
+use Rattle.rules.specs.Moves.{Stopped, isAccept, shifts, shiftsTo, RejectSeen, StoppedSeen}
 use Rattle.rules.specs.Table.{traceBook, replyArea, setConfiguration1}
 use Rattle.rules.specs.declared.Event.{Event}
 use Rattle.rules.proofs.Tests.{Told?, passed, failed, told as whether, and-l, and-r, clash}
@@ -35,49 +35,62 @@ module _ (book : Book) (ends : Ends) where
   abbrev StopsBy : List ℕ → ℕ → Type 0
   StopsBy p signal =
       isAccept (obey (signalOf signal) book ends p .reply) ≡ false
-      → Stopped (mayTurn signal) (turnsTo signal) book ends p (obey (signalOf signal) book ends p)
+      → Stopped (signalOf signal) (shiftsTo signal) book ends p (obey (signalOf signal) book ends p)
 
   stops-07 : (p : List ℕ) → isEmpty p ≡ false → StopsBy p 0x07
-  unfolding isEmpty mayTurn turnsTo answer
+  unfolding isEmpty shiftsTo signalOf answer
   stops-07 [] lists = clash refl lists
   stops-07 (o ∷ os) lists = start-stops book ends 0 o os
 
   stops-09 : (p : List ℕ) → isEmpty p ≡ false → StopsBy p 0x09
-  unfolding isEmpty mayTurn turnsTo answer
+  unfolding isEmpty shiftsTo signalOf answer
   stops-09 [] lists = clash refl lists
   stops-09 (o ∷ os) lists = suspend-stops book ends 0 o os
 
   stops-by : (p : List ℕ) (signal : ℕ) → isEmpty p ≡ false → eqb signal 0x07 || eqb signal 0x09 ≡ true
       → Told? (eqb signal 0x07) → StopsBy p signal
-  stops-by p signal lists turn (passed is07) = subst (StopsBy p) (sym (eqb-true signal 0x07 is07)) (stops-07 p lists)
-  stops-by p signal lists turn (failed other) =
-      subst (StopsBy p) (sym (eqb-true signal 0x09 (rw other at turn))) (stops-09 p lists)
+  stops-by p signal lists shift (passed is07) = subst (StopsBy p) (sym (eqb-true signal 0x07 is07)) (stops-07 p lists)
+  stops-by p signal lists shift (failed other) =
+      subst (StopsBy p) (sym (eqb-true signal 0x09 (rw other at shift))) (stops-09 p lists)
 
-  message-stops : (m : Message) → turns m ≡ true → isEmpty (m .payload) ≡ false → isAccept (answer book ends m .reply) ≡ false
-      → Stopped (mayTurn (m .signal)) (turnsTo (m .signal)) book ends (m .payload) (answer book ends m)
-  unfolding turns answer
-  message-stops m turn lists e =
-      let command = and-l (eqb (m .type) 0) (eqb (m .signal) 0x07 || eqb (m .signal) 0x09) turn in
-      let signal = and-r (eqb (m .type) 0) (eqb (m .signal) 0x07 || eqb (m .signal) 0x09) turn in
+  message-stops : (m : Message) → shifts m ≡ true → isEmpty (m .payload) ≡ false → isAccept (answer book ends m .reply) ≡ false
+      → Stopped (signalOf (m .signal)) (shiftsTo (m .signal)) book ends (m .payload) (answer book ends m)
+  unfolding shifts answer
+  message-stops m shift lists e =
+      let command = and-l (eqb (m .type) 0) (eqb (m .signal) 0x07 || eqb (m .signal) 0x09) shift in
+      let signal = and-r (eqb (m .type) 0) (eqb (m .signal) 0x07 || eqb (m .signal) 0x09) shift in
       rw command (stops-by (m .payload) (m .signal) lists signal (whether (eqb (m .signal) 0x07)) (rw command at e))
+
+-- its reject has two octets
+two-by : (signal what code : ℕ) → eqb signal 0x07 || eqb signal 0x09 ≡ true → Told? (eqb signal 0x07)
+    → rejects (signalOf signal) what code ≡ reject (what ∷ code ∷ [])
+unfolding rejects signalOf
+two-by signal what code shift (passed is07) = rw (eqb-true signal 0x07 is07)
+two-by signal what code shift (failed other) = rw (eqb-true signal 0x09 (rw other at shift))
+
+two-octets : (m : Message) (what code : ℕ) → shifts m ≡ true → rejects (signalOf (m .signal)) what code ≡ reject (what ∷ code ∷ [])
+unfolding shifts
+two-octets m what code shift =
+    two-by (m .signal) what code (and-r (eqb (m .type) 0) (eqb (m .signal) 0x07 || eqb (m .signal) 0x09) shift)
+      (whether (eqb (m .signal) 0x07))
 
 -- One that lists nothing is rejected with SEID 0 and moves none.
 module _ (book : Book) (ends : Ends) where
   none-by : (signal : ℕ) → eqb signal 0x07 || eqb signal 0x09 ≡ true → Told? (eqb signal 0x07)
       → obey (signalOf signal) book ends [] ≡ stays ends (reject (0 ∷ 0x11 ∷ []))
   unfolding answer
-  none-by signal turn (passed is07) =
+  none-by signal shift (passed is07) =
       subst (λ (n : ℕ). obey (signalOf n) book ends [] ≡ stays ends (reject (0 ∷ 0x11 ∷ [])))
         (sym (eqb-true signal 0x07 is07)) (start-of-none book ends 0)
-  none-by signal turn (failed other) =
+  none-by signal shift (failed other) =
       subst (λ (n : ℕ). obey (signalOf n) book ends [] ≡ stays ends (reject (0 ∷ 0x11 ∷ [])))
-        (sym (eqb-true signal 0x09 (rw other at turn))) (suspend-of-none book ends 0)
+        (sym (eqb-true signal 0x09 (rw other at shift))) (suspend-of-none book ends 0)
 
-  message-of-none : (m : Message) → turns m ≡ true → m .payload ≡ [] → answer book ends m ≡ stays ends (reject (0 ∷ 0x11 ∷ []))
-  unfolding turns answer
-  message-of-none m turn lists-none =
-      let command = and-l (eqb (m .type) 0) (eqb (m .signal) 0x07 || eqb (m .signal) 0x09) turn in
-      let signal = and-r (eqb (m .type) 0) (eqb (m .signal) 0x07 || eqb (m .signal) 0x09) turn in
+  message-of-none : (m : Message) → shifts m ≡ true → m .payload ≡ [] → answer book ends m ≡ stays ends (reject (0 ∷ 0x11 ∷ []))
+  unfolding shifts answer
+  message-of-none m shift lists-none =
+      let command = and-l (eqb (m .type) 0) (eqb (m .signal) 0x07 || eqb (m .signal) 0x09) shift in
+      let signal = and-r (eqb (m .type) 0) (eqb (m .signal) 0x07 || eqb (m .signal) 0x09) shift in
       rw (command, lists-none) (none-by (m .signal) signal (whether (eqb (m .signal) 0x07)))
 
 -- ---- What a packet shows
@@ -137,15 +150,16 @@ module _ (b : List ℕ) (size : ℕ) (saved p reply : List ℕ) (ok : bookNumber
 
   -- A packet that completes a Start or a Suspend and is answered with a reject: what the saved octets show is exactly the
   -- endpoints listed before the failed one moved, and the reply names it.
-  pub packet-stopped : turns m ≡ true → isEmpty (m .payload) ≡ false → packetCall b size saved p reply .told .type ≡ 3
+  pub packet-stopped : shifts m ≡ true → isEmpty (m .payload) ≡ false → packetCall b size saved p reply .told .type ≡ 3
       → StoppedSeen (bookOf b) (connectionIn (length (bookOf b)) saved .ends) reply m (packetCall b size saved p reply)
-  unfolding rejectSeid toldOf said payloadOf
-  packet-stopped turn lists e =
+  unfolding toldOf said payloadOf
+  packet-stopped shift lists e =
       let book = bookOf b in
       let ends = connectionIn (length book) saved .ends in
       let t = taken (whether (eqb (packetNumber size reply) 0)) e in
       let refuses = rejected m (answer book ends m .reply) (sym (ap (λ (x : Told). x .type) (told-seen t)) ∙ e) in
-      let s = message-stops book ends m turn lists refuses in
+      let s = message-stops book ends m shift lists refuses in
+      let named = s .named ∙ two-octets m _ _ shift in
       record {
         before = s .before;
         failed = s .failed;
@@ -156,22 +170,22 @@ module _ (b : List ℕ) (size : ℕ) (saved p reply : List ℕ) (ok : bookNumber
         mightNot = s .mightNot;
         named =
           record {
-            told = told-seen t ∙ ap (toldOf m) (s .named);
-            written = reply-seen t ∙ ap (λ (r : Reply). front (payloadOf r) reply) (s .named)
+            told = told-seen t ∙ ap (toldOf m) named;
+            written = reply-seen t ∙ ap (λ (r : Reply). front (payloadOf r) reply) named
           }
       }
 
   -- One that lists no endpoint is rejected with SEID 0 and 11h, and moves none.
-  pub packet-of-none : turns m ≡ true → m .payload ≡ [] → packetCall b size saved p reply .told .type ≡ 3
+  pub packet-of-none : shifts m ≡ true → m .payload ≡ [] → packetCall b size saved p reply .told .type ≡ 3
       → RejectSeen reply m 0 0x11 (packetCall b size saved p reply)
         × (connectionIn (length (bookOf b)) (packetCall b size saved p reply .saved) .ends
            ≡ connectionIn (length (bookOf b)) saved .ends)
   unfolding stays toldOf said payloadOf
-  packet-of-none turn lists-none e =
+  packet-of-none shift lists-none e =
       let book = bookOf b in
       let ends = connectionIn (length book) saved .ends in
       let t = taken (whether (eqb (packetNumber size reply) 0)) e in
-      let s = message-of-none book ends m turn lists-none in
+      let s = message-of-none book ends m shift lists-none in
       ( record {
           told = told-seen t ∙ ap (λ (o : Outcome). toldOf m (o .reply)) s;
           written = reply-seen t ∙ ap (λ (o : Outcome). front (payloadOf (o .reply)) reply) s
@@ -195,7 +209,7 @@ startOfBoth = record { label = 8; type = 0; signal = 0x07; payload = 0x04 ∷ 0x
 pub start-stopped :
   StoppedSeen (bookOf traceBook) (connectionIn (length (bookOf traceBook)) openArea .ends) replyArea startOfBoth
     (packetCall traceBook 48 openArea (0x80 ∷ 0x07 ∷ 0x04 ∷ 0x14 ∷ []) replyArea)
-unfolding computed traceBook openArea turns
+unfolding computed traceBook openArea shifts
 start-stopped =
     packet-stopped traceBook 48 openArea (0x80 ∷ 0x07 ∷ 0x04 ∷ 0x14 ∷ []) replyArea trace-book-right open-area-right startOfBoth
       refl refl refl refl

@@ -1,4 +1,5 @@
--- Every command with its checks in order and what it does to the endpoints (document 01, Commands; 001, 8.6 to 8.19).
+-- Every command: the checks that it begins with, and what it does at the endpoint that it names (document 01, Commands; 001, 8.5 to
+-- 8.19).
 use Prim.Native.Nat.{ℕ, _+_, _*_, _/_}
 use mathlib.Core.List.{List, [], _∷_}
 use mathlib.Core.Bool.{Bool, true, false, not, _&&_, _||_}
@@ -17,8 +18,22 @@ use Rattle.rules.specs.declared.Rule.the-variants.{Setting, Reconfigurin
 use Rattle.rules.specs.declared.Fault.{Fault}
 use Rattle.rules.specs.declared.State.{State}
 use Rattle.rules.specs.declared.State.the-variants.{Idle, Configured, Open, Streaming, Closing, Aborting}
+use Rattle.rules.specs.declared.Channel.{Channel}
 use Rattle.rules.specs.declared.Channel.the-variants.{Absent, Awaited}
 use Rattle.rules.specs.declared.Delay.the-variants.{Unreported, Reported}
+use Rattle.rules.specs.declared.Signal.{Signal}
+use Rattle.rules.specs.declared.Signal.the-variants.{Discover, GetCapabilities, SetConfiguration, GetConfiguration, Reconfigure}
+use Rattle.rules.specs.declared.Signal.the-variants.{OpenUp, Start, Close, Suspend, Abort, SecurityControl}
+use Rattle.rules.specs.declared.Signal.the-variants.{GetAllCapabilities, DelayReport, Unassigned}
+
+-- ---- The 64 signals (001, 8.5)
+
+unfoldable pub signalOf : ℕ → Signal
+signalOf n =
+    getD
+      (Unassigned ∷ Discover ∷ GetCapabilities ∷ SetConfiguration ∷ GetConfiguration ∷ Reconfigure ∷ OpenUp ∷ Start ∷ Close
+       ∷ Suspend ∷ Abort ∷ SecurityControl ∷ GetAllCapabilities ∷ DelayReport ∷ [])
+      n Unassigned
 
 -- ---- Answers
 
@@ -41,21 +56,47 @@ stays ends r = record { ends = ends; reply = r }
 unfoldable pub moves : Ends → ℕ → Endpoint → Outcome
 moves ends i e = record { ends = set ends i e; reply = accept [] }
 
--- A reject's payload: category then code; SEID times 4 then code; code.
-unfoldable pub rejectBare : ℕ → Reply
-rejectBare code = reject (code ∷ [])
+-- A reject's payload is, of 03 and 05, a category then the code; of 07 and 09, a SEID times 4 then the code; of others, the code. A
+-- refused Abort is silent.
+unfoldable pub rejects : Signal → ℕ → ℕ → Reply
+rejects Discover what code = reject (code ∷ [])
+rejects GetCapabilities what code = reject (code ∷ [])
+rejects SetConfiguration what code = reject (what ∷ code ∷ [])
+rejects GetConfiguration what code = reject (code ∷ [])
+rejects Reconfigure what code = reject (what ∷ code ∷ [])
+rejects OpenUp what code = reject (code ∷ [])
+rejects Start what code = reject (what ∷ code ∷ [])
+rejects Close what code = reject (code ∷ [])
+rejects Suspend what code = reject (what ∷ code ∷ [])
+rejects Abort what code = silence
+rejects SecurityControl what code = reject (code ∷ [])
+rejects GetAllCapabilities what code = reject (code ∷ [])
+rejects DelayReport what code = reject (code ∷ [])
+rejects Unassigned what code = generalReject
 
-unfoldable pub rejectElement : Fault → Reply
-rejectElement f = reject (f .category ∷ f .code ∷ [])
+-- for an element that failed
+unfoldable pub rejectsFault : Signal → Fault → Reply
+rejectsFault signal f = rejects signal (f .category) (f .code)
 
--- before the elements, with category 0
-unfoldable pub rejectPlain : ℕ → Reply
-rejectPlain code = rejectElement (record { category = 0; code = code })
+-- ---- The length of the payload: 11h
 
-unfoldable pub rejectSeid : OurSeid → ℕ → Reply
-rejectSeid s code = reject (s .0 * 4 ∷ code ∷ [])
+unfoldable pub lengthRight : Signal → ℕ → Bool
+lengthRight Discover n = eqb n 0
+lengthRight GetCapabilities n = eqb n 1
+lengthRight SetConfiguration n = leb 2 n
+lengthRight GetConfiguration n = eqb n 1
+lengthRight Reconfigure n = leb 3 n
+lengthRight OpenUp n = eqb n 1
+lengthRight Start n = leb 1 n
+lengthRight Close n = eqb n 1
+lengthRight Suspend n = leb 1 n
+lengthRight Abort n = eqb n 1
+lengthRight SecurityControl n = leb 1 n
+lengthRight GetAllCapabilities n = eqb n 1
+lengthRight DelayReport n = eqb n 3
+lengthRight Unassigned n = true
 
--- ---- SEIDs in a payload: bits 7-2 of an octet
+-- ---- Known: in the book, else 12h. A SEID stands in bits 7-2 of an octet.
 
 unfoldable pub ourIn : ℕ → OurSeid
 ourIn o = record { 0 = o / 4 }
@@ -63,18 +104,7 @@ ourIn o = record { 0 = o / 4 }
 unfoldable pub farIn : ℕ → FarSeid
 farIn o = record { 0 = o / 4 }
 
--- ---- The checks that most commands begin with: the length (11h), then known (12h)
-
-unfoldable pub foundOr : Outcome → Found → (ℕ → Entry → Outcome) → Outcome
-foundOr missing unknown on = missing
-foundOr missing (known i n) on = on i n
-
-unfoldable pub atEndpoint : (ℕ → Reply) → Bool → Book → Ends → List ℕ → (ℕ → Entry → Outcome) → Outcome
-atEndpoint refuse lengthRight book ends p on =
-    if lengthRight then foundOr (stays ends (refuse 0x12)) (find (ourIn (getD p 0 0)) book) on
-    else stays ends (refuse 0x11)
-
--- ---- States that a command asks for
+-- ---- The state: which command an endpoint takes in which state
 
 unfoldable pub isConfigured : State → Bool
 isConfigured Idle = false
@@ -104,6 +134,70 @@ isStreaming Aborting = false
 unfoldable pub isSet : State → Bool
 isSet s = isConfigured s || isOpen s || isStreaming s
 
+-- The table of states, by the endpoint's state and channel.
+unfoldable pub may : Signal → State → Channel → Bool
+may Discover s c = true
+may GetCapabilities s c = true
+may SetConfiguration s c = isIdle s
+may GetConfiguration s c = isSet s
+may Reconfigure s c = isOpen s
+may OpenUp s c = isConfigured s
+may Start s c = isOpen s && isUp c
+may Close s c = isOpen s || isStreaming s
+may Suspend s c = isStreaming s
+may Abort s c = true
+may SecurityControl s c = true
+may GetAllCapabilities s c = true
+may DelayReport s c = isSet s
+may Unassigned s c = true
+
+-- the code where it may not
+unfoldable pub wrongState : Signal → State → ℕ
+wrongState Discover s = 0x31
+wrongState GetCapabilities s = 0x31
+wrongState SetConfiguration s = 0x13
+wrongState GetConfiguration s = 0x31
+wrongState Reconfigure s = if isIdle s then 0x14 else 0x31
+wrongState OpenUp s = 0x31
+wrongState Start s = 0x31
+wrongState Close s = 0x31
+wrongState Suspend s = 0x31
+wrongState Abort s = 0x31
+wrongState SecurityControl s = 0x31
+wrongState GetAllCapabilities s = 0x31
+wrongState DelayReport s = 0x31
+wrongState Unassigned s = 0x31
+
+-- ---- The checks that every command on an endpoint begins with: length, known, state
+
+-- What they come to: the code of the refusal, or the endpoint's place in the book with its entry.
+pub data Met : Type 0 where
+  refused : ℕ → Met
+  here : ℕ → Entry → Met
+
+unfoldable pub metAt : Signal → Ends → Found → Met
+metAt signal ends unknown = refused 0x12
+metAt signal ends (known i n) =
+    let e = endAt ends i in
+    if may signal (e .state) (e .channel) then here i n else refused (wrongState signal (e .state))
+
+-- known and state, for one SEID
+unfoldable pub meets : Signal → Book → Ends → OurSeid → Met
+meets signal book ends s = metAt signal ends (find s book)
+
+-- all three; payload octet 0 holds our SEID
+unfoldable pub preamble : Signal → Book → Ends → List ℕ → Met
+preamble signal book ends p =
+    if lengthRight signal (length p) then meets signal book ends (ourIn (getD p 0 0)) else refused 0x11
+
+-- A command that names one endpoint, by what it does there; a category that was not reached is 0.
+unfoldable pub atMet : Signal → Ends → (ℕ → Entry → Outcome) → Met → Outcome
+atMet signal ends on (refused code) = stays ends (rejects signal 0 code)
+atMet signal ends on (here i n) = on i n
+
+unfoldable pub named : Signal → Book → Ends → List ℕ → (ℕ → Entry → Outcome) → Outcome
+named signal book ends p on = atMet signal ends on (preamble signal book ends p)
+
 -- ---- 01 Discover
 
 unfoldable pub inUse : Endpoint → ℕ
@@ -115,15 +209,15 @@ discovered (n ∷ book) [] = []
 discovered (n ∷ book) (e ∷ ends) = (n .seid .0 * 4 + inUse e) ∷ n .kind ∷ discovered book ends
 
 unfoldable pub discover : Book → Ends → List ℕ → Outcome
-discover book ends p = stays ends (if eqb (length p) 0 then accept (discovered book ends) else rejectBare 0x11)
+discover book ends p =
+    stays ends (if lengthRight Discover (length p) then accept (discovered book ends) else rejects Discover 0 0x11)
 
 -- ---- 02 Get Capabilities, 0C Get All Capabilities
 
-unfoldable pub capabilities : (Entry → List ℕ) → Book → Ends → List ℕ → Outcome
-capabilities shown book ends p =
-    atEndpoint rejectBare (eqb (length p) 1) book ends p λ i n. stays ends (accept (shown n))
+unfoldable pub offersAt : (Entry → List ℕ) → Ends → ℕ → Entry → Outcome
+offersAt shown ends i n = stays ends (accept (shown n))
 
--- ---- 03 Set Configuration
+-- ---- 03 Set Configuration: the far SEID, then the elements
 
 unfoldable pub settled : Endpoint → FarSeid → List ℕ → Endpoint
 settled e far config =
@@ -131,132 +225,84 @@ settled e far config =
 
 unfoldable pub setAt : Ends → List ℕ → ℕ → Entry → Outcome
 setAt ends p i n =
-    let e = endAt ends i in
     let far = farIn (getD p 1 0) in
     let asked = items (drop 2 p) in
     let fault = faultIn Setting (items (n .caps)) asked in
-    if not (isIdle (e .state)) then stays ends (rejectPlain 0x13)
-    else if not (farRight far) then stays ends (rejectPlain 0x18)
-    else if not (eqb (fault .code) 0) then stays ends (rejectElement fault)
-    else moves ends i (settled e far (stored asked))
-
-unfoldable pub setConfiguration : Book → Ends → List ℕ → Outcome
-setConfiguration book ends p = atEndpoint rejectPlain (leb 2 (length p)) book ends p (setAt ends p)
+    if not (farRight far) then stays ends (rejects SetConfiguration 0 0x18)
+    else if not (eqb (fault .code) 0) then stays ends (rejectsFault SetConfiguration fault)
+    else moves ends i (settled (endAt ends i) far (stored asked))
 
 -- ---- 04 Get Configuration
 
-unfoldable pub getConfiguration : Book → Ends → List ℕ → Outcome
-getConfiguration book ends p =
-    atEndpoint rejectBare (eqb (length p) 1) book ends p λ i n.
-      let e = endAt ends i in
-      stays ends (if isSet (e .state) then accept (e .config) else rejectBare 0x31)
+unfoldable pub configurationAt : Ends → ℕ → Entry → Outcome
+configurationAt ends i n = stays ends (accept (endAt ends i .config))
 
--- ---- 05 Reconfigure
+-- ---- 05 Reconfigure: the elements
 
 unfoldable pub reconfigureAt : Ends → List ℕ → ℕ → Entry → Outcome
 reconfigureAt ends p i n =
     let e = endAt ends i in
     let asked = items (drop 1 p) in
     let fault = faultIn Reconfiguring (items (n .caps)) asked in
-    if isIdle (e .state) then stays ends (rejectPlain 0x14)
-    else if not (isOpen (e .state)) then stays ends (rejectPlain 0x31)
-    else if not (eqb (fault .code) 0) then stays ends (rejectElement fault)
+    if not (eqb (fault .code) 0) then stays ends (rejectsFault Reconfigure fault)
     else moves ends i (withConfig (restored asked (items (e .config))) e)
 
-unfoldable pub reconfigure : Book → Ends → List ℕ → Outcome
-reconfigure book ends p = atEndpoint rejectPlain (leb 3 (length p)) book ends p (reconfigureAt ends p)
+-- ---- 06 Open: a further check of the same code, that no other endpoint awaits its channel
 
--- ---- 06 Open
+unfoldable pub openAt : Ends → ℕ → Entry → Outcome
+openAt ends i n =
+    if eqb (awaiting ends) 0 then moves ends i (withChannel Awaited (inState Open (endAt ends i)))
+    else stays ends (rejects OpenUp 0 0x31)
 
-unfoldable pub openUp : Book → Ends → List ℕ → Outcome
-openUp book ends p =
-    atEndpoint rejectBare (eqb (length p) 1) book ends p λ i n.
-      let e = endAt ends i in
-      if isConfigured (e .state) && eqb (awaiting ends) 0 then moves ends i (withChannel Awaited (inState Open e))
-      else stays ends (rejectBare 0x31)
+-- ---- 07 Start and 09 Suspend: each SEID in turn, and a stop at the first failure; earlier ones stay shifted
 
--- ---- 07 Start and 09 Suspend: each SEID in turn, and a stop at the first failure; earlier ones stay moved
+unfoldable pub shiftOne : Signal → State → OurSeid → Ends → (Ends → Outcome) → Met → Outcome
+shiftOne signal to s ends next (refused code) = stays ends (rejects signal (s .0 * 4) code)
+shiftOne signal to s ends next (here i n) = next (set ends i (inState to (endAt ends i)))
 
-unfoldable pub mayStart : Endpoint → Bool
-mayStart e = isOpen (e .state) && isUp (e .channel)
+unfoldable pub shiftEach : Signal → State → Book → Ends → List ℕ → Outcome
+shiftEach signal to book ends [] = stays ends (accept [])
+shiftEach signal to book ends (o ∷ os) =
+    shiftOne signal to (ourIn o) ends (λ shifted. shiftEach signal to book shifted os) (meets signal book ends (ourIn o))
 
-unfoldable pub maySuspend : Endpoint → Bool
-maySuspend e = isStreaming (e .state)
+unfoldable pub shift : Signal → State → Book → Ends → List ℕ → Outcome
+shift signal to book ends p =
+    if lengthRight signal (length p) then shiftEach signal to book ends p else stays ends (rejects signal 0 0x11)
 
-unfoldable pub turnOne : (Endpoint → Bool) → State → OurSeid → Ends → (Ends → Outcome) → ℕ → Entry → Outcome
-turnOne may to s ends next i n =
-    let e = endAt ends i in
-    if may e then next (set ends i (inState to e)) else stays ends (rejectSeid s 0x31)
+-- ---- 08 Close and 0A Abort
 
-unfoldable pub turnEach : (Endpoint → Bool) → State → Book → Ends → List ℕ → Outcome
-turnEach may to book ends [] = stays ends (accept [])
-turnEach may to book ends (o ∷ os) =
-    foundOr (stays ends (rejectSeid (ourIn o) 0x12)) (find (ourIn o) book)
-    (turnOne may to (ourIn o) ends (λ moved. turnEach may to book moved os))
-
-unfoldable pub turn : (Endpoint → Bool) → State → Book → Ends → List ℕ → Outcome
-turn may to book ends p =
-    if eqb (length p) 0 then stays ends (rejectSeid (record { 0 = 0 }) 0x11) else turnEach may to book ends p
-
--- ---- 08 Close
-
-unfoldable pub close : Book → Ends → List ℕ → Outcome
-close book ends p =
-    atEndpoint rejectBare (eqb (length p) 1) book ends p λ i n.
-      let e = endAt ends i in
-      if isOpen (e .state) || isStreaming (e .state) then moves ends i (leaving Closing e) else stays ends (rejectBare 0x31)
-
--- ---- 0A Abort: wrong length or unknown SEID is silent
-
-unfoldable pub abort : Book → Ends → List ℕ → Outcome
-abort book ends p =
-    atEndpoint (λ code. silence) (eqb (length p) 1) book ends p λ i n. moves ends i (leaving Aborting (endAt ends i))
+unfoldable pub leaveAt : State → Ends → ℕ → Entry → Outcome
+leaveAt to ends i n = moves ends i (leaving to (endAt ends i))
 
 -- ---- 0B Security Control
 
-unfoldable pub securityControl : Book → Ends → List ℕ → Outcome
-securityControl book ends p =
-    atEndpoint rejectBare (leb 1 (length p)) book ends p λ i n. stays ends (rejectBare 0x19)
+unfoldable pub securityAt : Ends → ℕ → Entry → Outcome
+securityAt ends i n = stays ends (rejects SecurityControl 0 0x19)
 
--- ---- 0D Delay Report: high octet, low octet, in tenths of a millisecond
+-- ---- 0D Delay Report: a source with 8 configured; high octet, low octet, in tenths of a millisecond
 
-unfoldable pub delayReport : Book → Ends → List ℕ → Outcome
-delayReport book ends p =
-    atEndpoint rejectBare (eqb (length p) 3) book ends p λ i n.
-      let e = endAt ends i in
-      if not (isSet (e .state)) then stays ends (rejectBare 0x31)
-      else if not (takesDelay n e) then stays ends (rejectBare 0x19)
-      else moves ends i (withDelay (Reported (pairIn (getD p 1 0) (getD p 2 0))) e)
+unfoldable pub delayAt : Ends → List ℕ → ℕ → Entry → Outcome
+delayAt ends p i n =
+    let e = endAt ends i in
+    if not (takesDelay n e) then stays ends (rejects DelayReport 0 0x19)
+    else moves ends i (withDelay (Reported (pairIn (getD p 1 0) (getD p 2 0))) e)
 
--- ---- The 64 signals (001, 8.5)
-
-pub data Signal : Type 0 where
-  Discover GetCapabilities SetConfiguration GetConfiguration Reconfigure OpenUp Start Close Suspend Abort : Signal
-  SecurityControl GetAllCapabilities DelayReport : Signal
-  -- 00 and 0E to 3F
-  Unassigned : Signal
-
-unfoldable pub signalOf : ℕ → Signal
-signalOf n =
-    getD
-      (Unassigned ∷ Discover ∷ GetCapabilities ∷ SetConfiguration ∷ GetConfiguration ∷ Reconfigure ∷ OpenUp ∷ Start ∷ Close
-       ∷ Suspend ∷ Abort ∷ SecurityControl ∷ GetAllCapabilities ∷ DelayReport ∷ [])
-      n Unassigned
+-- ---- All commands
 
 unfoldable pub obey : Signal → Book → Ends → List ℕ → Outcome
 obey Discover book ends p = discover book ends p
-obey GetCapabilities book ends p = capabilities shownBy02 book ends p
-obey SetConfiguration book ends p = setConfiguration book ends p
-obey GetConfiguration book ends p = getConfiguration book ends p
-obey Reconfigure book ends p = reconfigure book ends p
-obey OpenUp book ends p = openUp book ends p
-obey Start book ends p = turn mayStart Streaming book ends p
-obey Close book ends p = close book ends p
-obey Suspend book ends p = turn maySuspend Open book ends p
-obey Abort book ends p = abort book ends p
-obey SecurityControl book ends p = securityControl book ends p
-obey GetAllCapabilities book ends p = capabilities shownBy0C book ends p
-obey DelayReport book ends p = delayReport book ends p
+obey GetCapabilities book ends p = named GetCapabilities book ends p (offersAt shownBy02 ends)
+obey SetConfiguration book ends p = named SetConfiguration book ends p (setAt ends p)
+obey GetConfiguration book ends p = named GetConfiguration book ends p (configurationAt ends)
+obey Reconfigure book ends p = named Reconfigure book ends p (reconfigureAt ends p)
+obey OpenUp book ends p = named OpenUp book ends p (openAt ends)
+obey Start book ends p = shift Start Streaming book ends p
+obey Close book ends p = named Close book ends p (leaveAt Closing ends)
+obey Suspend book ends p = shift Suspend Open book ends p
+obey Abort book ends p = named Abort book ends p (leaveAt Aborting ends)
+obey SecurityControl book ends p = named SecurityControl book ends p (securityAt ends)
+obey GetAllCapabilities book ends p = named GetAllCapabilities book ends p (offersAt shownBy0C ends)
+obey DelayReport book ends p = named DelayReport book ends p (delayAt ends p)
 obey Unassigned book ends p = stays ends generalReject
 
 -- A completed message that is not a command (message type 0) is silent.

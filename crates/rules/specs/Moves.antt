@@ -11,11 +11,11 @@ use Rattle.rules.specs.Book.{Book, Found, unknown, known, find}
 use Rattle.rules.specs.Packets.{Message}
 use Rattle.rules.specs.Endpoints.{Endpoint, Ends, endAt, inState}
 use Rattle.rules.specs.Saved.{connectionIn}
-use Rattle.rules.specs.Commands.{Reply, silence, generalReject, accept, reject, rejectSeid, ourIn, Outcome, mayStart}
-use Rattle.rules.specs.Commands.{maySuspend}
+use Rattle.rules.specs.Commands.{Reply, silence, generalReject, accept, reject, rejects, signalOf, ourIn, may, Outcome}
 use Rattle.rules.specs.Host.{Answered}
 use Rattle.rules.specs.declared.State.{State}
 use Rattle.rules.specs.declared.State.the-variants.{Open, Streaming}
+use Rattle.rules.specs.declared.Signal.{Signal}
 
 -- one endpoint moved to a state, and each that a payload lists, in turn
 unfoldable pub movedOne : State → Found → Ends → Ends
@@ -27,14 +27,14 @@ movedAll to book ends [] = ends
 movedAll to book ends (o ∷ os) = movedAll to book (movedOne to (find (ourIn o) book) ends) os
 
 -- it is known and may move; and so each that a payload lists, in its turn
-unfoldable pub mayOne : (Endpoint → Bool) → Found → Ends → Bool
-mayOne may unknown ends = false
-mayOne may (known i n) ends = may (endAt ends i)
+unfoldable pub mayOne : Signal → Found → Ends → Bool
+mayOne signal unknown ends = false
+mayOne signal (known i n) ends = may signal (endAt ends i .state) (endAt ends i .channel)
 
-unfoldable pub mayAll : (Endpoint → Bool) → State → Book → Ends → List ℕ → Bool
-mayAll may to book ends [] = true
-mayAll may to book ends (o ∷ os) =
-    mayOne may (find (ourIn o) book) ends && mayAll may to book (movedOne to (find (ourIn o) book) ends) os
+unfoldable pub mayAll : Signal → State → Book → Ends → List ℕ → Bool
+mayAll signal to book ends [] = true
+mayAll signal to book ends (o ∷ os) =
+    mayOne signal (find (ourIn o) book) ends && mayAll signal to book (movedOne to (find (ourIn o) book) ends) os
 
 -- why it failed: not known, or in the wrong state
 unfoldable pub failCode : Found → ℕ
@@ -54,23 +54,23 @@ movedIf true to e = inState to e
 movedIf false to e = e
 
 -- Stopped at the first that failed: those before it might move and have moved, it might not, and the reply names it.
-pub record Stopped (may : Endpoint → Bool) (to : State) (book : Book) (ends : Ends) (p : List ℕ) (out : Outcome) : Type 0 where
+pub record Stopped (signal : Signal) (to : State) (book : Book) (ends : Ends) (p : List ℕ) (out : Outcome) : Type 0 where
   pub before : List ℕ
   pub failed : ℕ
   pub behind : List ℕ
   pub listed : p ≡ before ++ failed ∷ behind
-  pub might : mayAll may to book ends before ≡ true
+  pub might : mayAll signal to book ends before ≡ true
   pub moved : out .ends ≡ movedAll to book ends before
-  pub mightNot : mayOne may (find (ourIn failed) book) (movedAll to book ends before) ≡ false
-  pub named : out .reply ≡ rejectSeid (ourIn failed) (failCode (find (ourIn failed) book))
+  pub mightNot : mayOne signal (find (ourIn failed) book) (movedAll to book ends before) ≡ false
+  pub named : out .reply ≡ rejects signal (ourIn failed .0 * 4) (failCode (find (ourIn failed) book))
 
 -- Start and Suspend
-unfoldable pub turns : Message → Bool
-turns m = eqb (m .type) 0 && (eqb (m .signal) 0x07 || eqb (m .signal) 0x09)
+unfoldable pub shifts : Message → Bool
+shifts m = eqb (m .type) 0 && (eqb (m .signal) 0x07 || eqb (m .signal) 0x09)
 
-unfoldable pub turnsIn : Option Message → Bool
-turnsIn none = false
-turnsIn (some m) = turns m
+unfoldable pub shiftsIn : Option Message → Bool
+shiftsIn none = false
+shiftsIn (some m) = shifts m
 
 unfoldable pub isAccept : Reply → Bool
 isAccept silence = false
@@ -78,12 +78,9 @@ isAccept generalReject = false
 isAccept (accept p) = true
 isAccept (reject p) = false
 
--- what Start (07) and Suspend (09) ask of an endpoint, and where they take it
-unfoldable pub mayTurn : ℕ → Endpoint → Bool
-mayTurn signal = if eqb signal 0x07 then mayStart else maySuspend
-
-unfoldable pub turnsTo : ℕ → State
-turnsTo signal = if eqb signal 0x07 then Streaming else Open
+-- where Start (07) and Suspend (09) take an endpoint
+unfoldable pub shiftsTo : ℕ → State
+shiftsTo signal = if eqb signal 0x07 then Streaming else Open
 
 -- A reject of two octets, seen from outside: what is told of it, and what is at the front of the reply area.
 pub record RejectSeen (reply : List ℕ) (m : Message) (seid code : ℕ) (a : Answered) : Type 0 where
@@ -97,8 +94,8 @@ pub record StoppedSeen (book : Book) (ends : Ends) (reply : List ℕ) (m : Messa
   pub failed : ℕ
   pub behind : List ℕ
   pub listed : m .payload ≡ before ++ failed ∷ behind
-  pub might : mayAll (mayTurn (m .signal)) (turnsTo (m .signal)) book ends before ≡ true
-  pub moved : connectionIn (length book) (a .saved) .ends ≡ movedAll (turnsTo (m .signal)) book ends before
+  pub might : mayAll (signalOf (m .signal)) (shiftsTo (m .signal)) book ends before ≡ true
+  pub moved : connectionIn (length book) (a .saved) .ends ≡ movedAll (shiftsTo (m .signal)) book ends before
   pub mightNot :
-    mayOne (mayTurn (m .signal)) (find (ourIn failed) book) (movedAll (turnsTo (m .signal)) book ends before) ≡ false
+    mayOne (signalOf (m .signal)) (find (ourIn failed) book) (movedAll (shiftsTo (m .signal)) book ends before) ≡ false
   pub named : RejectSeen reply m (ourIn failed .0) (failCode (find (ourIn failed) book)) a

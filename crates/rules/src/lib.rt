@@ -28,6 +28,24 @@ pub enum Delay {
     Reported(u16),
 }
 
+// A command, by its signal (001, 8.5): 01 to 0D in their order, then 00 and 0E to 3F.
+pub enum Signal {
+    Discover,
+    GetCapabilities,
+    SetConfiguration,
+    GetConfiguration,
+    Reconfigure,
+    OpenUp,
+    Start,
+    Close,
+    Suspend,
+    Abort,
+    SecurityControl,
+    GetAllCapabilities,
+    DelayReport,
+    Unassigned,
+}
+
 // What the host tells of the link.
 pub enum Event {
     Up,

@@ -5,7 +5,7 @@ use rules::State;
 
 ghost use mathlib.Core.Path.{_≡_};
 ghost use Rattle.rules.specs.Endpoints.{isIdle, isAbsent, isAwaited, isUp, farRight};
-ghost use Rattle.rules.specs.Commands.{isConfigured, isOpen, isSet};
+ghost use Rattle.rules.specs.Commands.{isConfigured, isOpen, isStreaming, isSet};
 
 pub fn is_idle(state: State) -> bool
     ensures { λ r. ⌜ r ≡ isIdle state ⌝ }
@@ -41,6 +41,19 @@ pub fn is_open(state: State) -> bool
         State::Configured => false,
         State::Open => true,
         State::Streaming => false,
+        State::Closing => false,
+        State::Aborting => false,
+    }
+}
+
+pub fn is_streaming(state: State) -> bool
+    ensures { λ r. ⌜ r ≡ isStreaming state ⌝ }
+{
+    match state {
+        State::Idle => false,
+        State::Configured => false,
+        State::Open => false,
+        State::Streaming => true,
         State::Closing => false,
         State::Aborting => false,
     }

@@ -1,6 +1,6 @@
--- `answer` meets its contract: by the message type.
+-- `answer` meets its contract, by the message type.
 use borrow.Author.Needs.{needs}
-use Rattle.commands.proofs.Signals.{no-command, a-command}
+use Rattle.commands.proofs.Messages.{no-command, a-command}
 use Rattle.commands.proofs.answer.Statement.{statement}
 use Rattle.commands.proofs.answer.Tie as tie
 
@@ -9,9 +9,8 @@ silent-requires c κs = search needs
 
 returns : tie.Need-returns
 returns c =
-    let entry = c .before .before .before .before .before .before in
-    let args = entry .args in
-    no-command (args .book .now) (args .records .now) (args .payload .now) (args .reply .now) (entry .pre) _ (entry .args .kind) (entry .args .signal) (c .before .if1 .taken) (c .silent .ensures)
+    let start = c .before .before .before .before .before .before in
+    no-command (start .pre) (start .args .mtype) (start .args .signal) (c .before .if1 .taken) (c .silent .ensures)
 
 obey-requires : tie.Need-obey-requires
 obey-requires c κs = search needs
@@ -25,8 +24,10 @@ same-length-2 c = search needs
 returns-2 : tie.Need-returns-2
 returns-2 c =
     let called = c .before .before .before .before in
-    let args = called .before .before .before .before .before .before .before .before .args in
-    a-command (args .book .now) (args .records .now) (args .payload .now) (args .reply .now) _ _ _ _ _ (called .before .before .before .if1 .left) (called .obey .ensures)
+    let other = called .before .before .before in
+    let args = other .before .before .before .before .before .args in
+    a-command (args .book .now) (args .records .now) (args .payload .now) (args .reply .now) (args .mtype) (args .signal)
+      (other .if1 .left) (called .obey .ensures)
 
 pub answer-spec : {M : Type 1} → statement M
 answer-spec =

@@ -1,86 +1,103 @@
--- `reconfigure` meets its contract: a payload that is too short or names no endpoint is rejected, else `renew_at` answers.
-use mathlib.Core.Path.{sym, _∙_}
+-- `reconfigure` meets its contract: by what the check of the elements finds, and what is said and written is a law of `Anew`.
+use Prim.Native.Nat.{ℕ}
+use mathlib.Core.Path.{_≡_, sym, ap, _∙_}
+use mathlib.Core.List.{List}
+use native.Mathlib.Nat.{le-trans}
+use lib.Dec.{lit≤}
+use lib.ListN.{take, drop}
 use borrow.Author.Needs.{needs}
-use Rattle.rules.specs.Commands.{ourIn, reconfigureAt, reconfigure}
-use Rattle.commands_set.proofs.Doings.{short-refused, unknown-refused}
+use Rattle.rules.specs.Elements.{items}
+use Rattle.rules.specs.declared.Rule.the-variants.{Reconfiguring}
+use Rattle.octets.specs.Patch.{part}
+use Rattle.elements.specs.Walks.{checkOf}
+use Rattle.commands_checks.proofs.Meeting.{stands}
+use Rattle.commands_set.proofs.Anew.{three, renews, fault-refused, anew-moves}
 use Rattle.commands_set.proofs.renewals.reconfigure.Statement.{statement}
 use Rattle.commands_set.proofs.renewals.reconfigure.Tie as tie
 
-refuse-plain-requires : tie.Need-refuse-plain-requires
-refuse-plain-requires c κs = search needs
+-- ---- What is known on the way
+
+abbrev start-of : tie.After-part → tie.Start
+start-of c = c .before .before .before .before .before
+
+found : (c : tie.After-check)
+  → let args = start-of (c .before) .args in
+    c .check .result
+    ≡ checkOf Reconfiguring (items (take (args .at .size) (drop (args .at .from) (args .book .now)))) (args .payload .now) 1
+unfolding part
+found c =
+    let args = start-of (c .before) .args in
+    c .check .ensures
+    ∙ ap (λ (l : List ℕ). checkOf Reconfiguring (items l) (args .payload .now) 1) (c .before .part .ensures)
+
+part-requires : tie.Need-part-requires
+part-requires c κs = stands (c .before .before .before .before .pre) .placed .inside
+
+check-requires : tie.Need-check-requires
+check-requires c κs =
+    let call = start-of c .pre in search (needs, three call, call .serves .short)
+
+enum-known-walked : tie.Need-enum-known-walked
+enum-known-walked c = search needs
+
+rejected-element-requires : tie.Need-rejected-element-requires
+rejected-element-requires c κs =
+    le-trans (lit≤ tt) (start-of (c .before .before .before .before .before) .pre .serves .room)
+
+enum-known-walked-2 : tie.Need-enum-known-walked-2
+enum-known-walked-2 c = search needs
+
+get-requires : tie.Need-get-requires
+get-requires c κs = stands (start-of (c .before .before .before .before .before) .pre) .inside
+
+renew-requires : tie.Need-renew-requires
+unfolding part
+renew-requires c κs =
+    let got = c .before in
+    let clean = got .before .before .before in
+    let checked = clean .before .before in
+    renews (start-of (checked .before) .pre) (checked .before .part .ensures) (got .get .ensures)
+      (sym (found checked) ∙ clean .walked2 .given .1)
+
+accepted-requires : tie.Need-accepted-requires
+accepted-requires c κs = search needs
 
 same-length : tie.Need-same-length
 same-length c = search needs
 
 returns : tie.Need-returns
-unfolding reconfigure
 returns c =
-    let short = c .before .before .before .before in
-    short-refused 3 reconfigureAt (short .before .before .before .before .before .pre) (short .if1 .taken)
-      (c .before .before .refuse-plain .ensures)
-
-shared-slice-read-t14 : tie.Need-shared-slice-read-t14
-shared-slice-read-t14 c = search needs
-
-place-requires : tie.Need-place-requires
-place-requires c κs = search needs
-
-enum-told : tie.Need-enum-told
-enum-told c = search needs
-
-refuse-plain-requires-2 : tie.Need-refuse-plain-requires-2
-refuse-plain-requires-2 c κs = search needs
-
-enum-known-place : tie.Need-enum-known-place
-enum-known-place c = search needs
-
-renew-at-requires : tie.Need-renew-at-requires
-unfolding ourIn
-renew-at-requires c κs =
-    let known = c .before .before .before in
-    let placed = known .before .before in
-    let long = placed .before .before in
-    let start = long .before .before .before .before .before in
-    ( start .pre,
-      long .if1 .left,
-      record { kind = known .place2 .given .0 .1 .0; there = sym (placed .place .ensures) ∙ known .place2 .given .1 })
+    let rejected = c .before .before in
+    let fault = rejected .before .before .before in
+    let checked = fault .before .before in
+    fault-refused (start-of (checked .before) .pre) (sym (found checked) ∙ fault .walked .given .1)
+      (rejected .rejected-element .ensures)
 
 same-length-2 : tie.Need-same-length-2
 same-length-2 c = search needs
 
 returns-2 : tie.Need-returns-2
-unfolding reconfigure ourIn
 returns-2 c =
-    let unknown = c .before .before .before .before in
-    let placed = unknown .before .before in
-    let long = placed .before .before in
-    unknown-refused 3 reconfigureAt (long .before .before .before .before .before .pre) (long .if1 .left)
-      (sym (placed .place .ensures) ∙ unknown .enum-told .given .1) (c .before .before .refuse-plain2 .ensures)
-
-same-length-3 : tie.Need-same-length-3
-same-length-3 c = search needs
-
-same-length-4 : tie.Need-same-length-4
-same-length-4 c = search needs
-
-returns-3 : tie.Need-returns-3
-returns-3 c = search needs
+    let renewed = c .before .before .before in
+    let got = renewed .before .before in
+    let clean = got .before .before .before in
+    let checked = clean .before .before in
+    anew-moves (start-of (checked .before) .pre) (sym (found checked) ∙ clean .walked2 .given .1) (got .get .ensures)
+      (c .accepted .ensures) (renewed .renew .ensures)
 
 pub reconfigure-spec : {M : Type 1} → statement M
 reconfigure-spec =
     tie.close
     (tie.spec
-    refuse-plain-requires
+    part-requires
+    check-requires
+    enum-known-walked
+    rejected-element-requires
+    enum-known-walked-2
+    get-requires
+    renew-requires
+    accepted-requires
     same-length
     returns
-    shared-slice-read-t14
-    place-requires
-    enum-told
-    refuse-plain-requires-2
-    enum-known-place
-    renew-at-requires
     same-length-2
-    returns-2
-    same-length-3
-    same-length-4
-    returns-3)
+    returns-2)

@@ -1,86 +1,147 @@
--- `set_configuration` meets its contract: a payload that is too short or names no endpoint is rejected, else `set_at` answers.
-use mathlib.Core.Path.{sym, _∙_}
+-- `set_configuration` meets its contract: each way out has passed the checks before it, and what it says and writes is a law of
+-- `Sets`.
+use Prim.Native.Nat.{ℕ}
+use mathlib.Core.Path.{_≡_, sym, ap, _∙_}
+use mathlib.Core.List.{List}
+use mathlib.Core.Bool.{true}
+use native.Mathlib.Nat.{le-trans}
+use lib.Dec.{lit≤}
+use lib.ListN.{take, drop, getD}
 use borrow.Author.Needs.{needs}
-use Rattle.rules.specs.Commands.{ourIn, setAt, setConfiguration}
-use Rattle.commands_set.proofs.Doings.{short-refused, unknown-refused}
+use borrow.Author.Tests.{not-true, not-false}
+use Rattle.rules.specs.Elements.{items}
+use Rattle.rules.specs.Endpoints.{farRight}
+use Rattle.rules.specs.Commands.{farIn}
+use Rattle.rules.specs.declared.Rule.the-variants.{Setting}
+use Rattle.octets.specs.Patch.{part}
+use Rattle.elements.specs.Walks.{checkOf}
+use Rattle.commands_checks.proofs.Meeting.{stands}
+use Rattle.commands_set.proofs.Sets.{two, set-keeps, far-refused, fault-refused, set-moves}
 use Rattle.commands_set.proofs.settings.set_configuration.Statement.{statement}
 use Rattle.commands_set.proofs.settings.set_configuration.Tie as tie
 
-refuse-plain-requires : tie.Need-refuse-plain-requires
-refuse-plain-requires c κs = search needs
+-- ---- What is known on the way
+
+abbrev start-of : tie.After-far-right → tie.Start
+start-of c = c .before .before .before .before .before .before
+
+right : (c : tie.Else1) → farRight (farIn (getD (start-of (c .before) .args .payload .now) 1 0)) ≡ true
+unfolding farIn
+right c = sym (c .before .far-right .ensures) ∙ not-false _ (c .if1 .left)
+
+found : (c : tie.After-check)
+  → let args = start-of (c .before .before .before) .args in
+    c .check .result
+    ≡ checkOf Setting (items (take (args .at .size) (drop (args .at .from) (args .book .now)))) (args .payload .now) 2
+unfolding part
+found c =
+    let args = start-of (c .before .before .before) .args in
+    c .check .ensures ∙ ap (λ (l : List ℕ). checkOf Setting (items l) (args .payload .now) 2) (c .before .part .ensures)
+
+shared-slice-read-t13 : tie.Need-shared-slice-read-t13
+shared-slice-read-t13 c = two (c .before .before .before .before .before .pre)
+
+far-right-requires : tie.Need-far-right-requires
+far-right-requires c κs = search needs
+
+rejected-for-requires : tie.Need-rejected-for-requires
+rejected-for-requires c κs = le-trans (lit≤ tt) (start-of (c .before .before) .pre .serves .room)
 
 same-length : tie.Need-same-length
 same-length c = search needs
 
 returns : tie.Need-returns
-unfolding setConfiguration
+unfolding farIn
 returns c =
-    let short = c .before .before .before .before in
-    short-refused 2 setAt (short .before .before .before .before .before .pre) (short .if1 .taken)
-      (c .before .before .refuse-plain .ensures)
+    let rejected = c .before .before in
+    let wrong = rejected .before .before in
+    far-refused (start-of (wrong .before) .pre) (sym (wrong .before .far-right .ensures) ∙ not-true _ (wrong .if1 .taken))
+      (rejected .rejected-for .ensures)
 
-shared-slice-read-t14 : tie.Need-shared-slice-read-t14
-shared-slice-read-t14 c = search needs
+part-requires : tie.Need-part-requires
+part-requires c κs = stands (start-of (c .before) .pre) .placed .inside
 
-place-requires : tie.Need-place-requires
-place-requires c κs = search needs
+check-requires : tie.Need-check-requires
+check-requires c κs =
+    let call = start-of (c .before .before) .pre in search (needs, two call, call .serves .short)
 
-enum-told : tie.Need-enum-told
-enum-told c = search needs
+enum-known-walked : tie.Need-enum-known-walked
+enum-known-walked c = search needs
 
-refuse-plain-requires-2 : tie.Need-refuse-plain-requires-2
-refuse-plain-requires-2 c κs = search needs
+rejected-element-requires : tie.Need-rejected-element-requires
+rejected-element-requires c κs =
+    le-trans (lit≤ tt) (start-of (c .before .before .before .before .before .before .before) .pre .serves .room)
 
-enum-known-place : tie.Need-enum-known-place
-enum-known-place c = search needs
+enum-known-walked-2 : tie.Need-enum-known-walked-2
+enum-known-walked-2 c = search needs
 
-set-at-requires : tie.Need-set-at-requires
-unfolding ourIn
-set-at-requires c κs =
-    let known = c .before .before .before in
-    let placed = known .before .before in
-    let long = placed .before .before in
-    let start = long .before .before .before .before .before in
-    ( start .pre,
-      long .if1 .left,
-      record { kind = known .place2 .given .0 .1 .0; there = sym (placed .place .ensures) ∙ known .place2 .given .1 })
+get-requires : tie.Need-get-requires
+get-requires c κs = stands (start-of (c .before .before .before .before .before .before .before) .pre) .inside
+
+settled-requires : tie.Need-settled-requires
+settled-requires c κs = search needs
+
+none-requires : tie.Need-none-requires
+none-requires c κs = search needs
+
+keep-requires : tie.Need-keep-requires
+keep-requires c κs =
+    let clean = c .before .before .before .before .before .before in
+    let checked = clean .before .before in
+    set-keeps (start-of (checked .before .before .before) .pre) (sym (found checked) ∙ clean .walked2 .given .1)
+      (c .none .ensures)
+
+accepted-requires : tie.Need-accepted-requires
+accepted-requires c κs = search needs
 
 same-length-2 : tie.Need-same-length-2
 same-length-2 c = search needs
 
 returns-2 : tie.Need-returns-2
-unfolding setConfiguration ourIn
+unfolding farIn
 returns-2 c =
-    let unknown = c .before .before .before .before in
-    let placed = unknown .before .before in
-    let long = placed .before .before in
-    unknown-refused 2 setAt (long .before .before .before .before .before .pre) (long .if1 .left)
-      (sym (placed .place .ensures) ∙ unknown .enum-told .given .1) (c .before .before .refuse-plain2 .ensures)
+    let rejected = c .before .before in
+    let fault = rejected .before .before .before in
+    let checked = fault .before .before in
+    let past = checked .before .before in
+    fault-refused (start-of (past .before) .pre) (right past) (sym (found checked) ∙ fault .walked .given .1)
+      (rejected .rejected-element .ensures)
 
 same-length-3 : tie.Need-same-length-3
 same-length-3 c = search needs
 
-same-length-4 : tie.Need-same-length-4
-same-length-4 c = search needs
-
 returns-3 : tie.Need-returns-3
-returns-3 c = search needs
+unfolding farIn
+returns-3 c =
+    let kept = c .before .before .before in
+    let settled = kept .before .before in
+    let got = settled .before .before in
+    let clean = got .before .before .before in
+    let checked = clean .before .before in
+    let past = checked .before .before in
+    set-moves (start-of (past .before) .pre) (right past) (sym (found checked) ∙ clean .walked2 .given .1)
+      (kept .before .none .ensures) (got .get .ensures) (settled .settled .ensures) (c .accepted .ensures) (kept .keep .ensures)
 
 pub set-configuration-spec : {M : Type 1} → statement M
 set-configuration-spec =
     tie.close
     (tie.spec
-    refuse-plain-requires
+    shared-slice-read-t13
+    far-right-requires
+    rejected-for-requires
     same-length
     returns
-    shared-slice-read-t14
-    place-requires
-    enum-told
-    refuse-plain-requires-2
-    enum-known-place
-    set-at-requires
+    part-requires
+    check-requires
+    enum-known-walked
+    rejected-element-requires
+    enum-known-walked-2
+    get-requires
+    settled-requires
+    none-requires
+    keep-requires
+    accepted-requires
     same-length-2
     returns-2
     same-length-3
-    same-length-4
     returns-3)

@@ -1,0 +1,3 @@
+mod Signals
+pub mod Meeting
+pub mod Acting

@@ -1,0 +1,233 @@
+-- What the checks come to, against the definitions: by the length, by the SEID's place in the book, and by the state that the record
+-- there tells.
+use Prim.Native.Nat.{ℕ, _+_, _*_, _≤_, _<_}
+use mathlib.Core.Path.{_≡_, refl, sym, ap, _∙_, subst}
+use mathlib.Core.List.{List}
+use mathlib.Core.Bool.{Bool, true, false}
+use native.Mathlib.Omega.{arith}
+use lib.ListN.{length, getD}
+use borrow.Author.Tests.{eqb-true, leb-true}
+use Rattle.rules.specs.Octets.{if_then_else_}
+use Rattle.rules.specs.Book.{Entry, bookNumber, bookOf}
+use Rattle.rules.specs.Walks.{placeIn, foundBy}
+use Rattle.rules.specs.Endpoints.{Ends, endAt, legalEnd}
+use Rattle.rules.specs.Saved.{recordRoom, configRoom, endsIn}
+use Rattle.rules.specs.Commands.{Outcome, stays, rejects, lengthRight, ourIn, may, wrongState, metAt, preamble, atMet, named}
+use Rattle.rules.specs.Commands.{Met as MetBy, refused, here, meets as meetsBy}
+use Rattle.rules.specs.declared.OurSeid.{OurSeid}
+use Rattle.rules.specs.declared.Place.{Place}
+use Rattle.rules.specs.declared.Place.the-variants.{Unknown, Known}
+use Rattle.rules.specs.declared.Signal.{Signal}
+use Rattle.rules.specs.declared.Signal.the-variants.{Discover, GetCapabilities, SetConfiguration, GetConfiguration, Reconfigure, OpenUp}
+use Rattle.rules.specs.declared.Signal.the-variants.{Start, Close, Suspend, Abort, SecurityControl, GetAllCapabilities, DelayReport}
+use Rattle.rules.specs.declared.Signal.the-variants.{Unassigned}
+use Rattle.rules.proofs.Tests.{Told?, told, passed, failed, clash}
+use Rattle.rules.proofs.Places.{legal-at}
+use Rattle.rules.proofs.ShortReplies.{end-short}
+use Rattle.book.proofs.Found.{entryBy, found-as, Placed, placed as placed-in}
+use Rattle.saved.specs.Records.{loaded, endpointOf, recordAt, configSizeAt, configAt}
+use Rattle.saved.specs.Held.{Held}
+use Rattle.saved.specs.declared.records.Endpoint.{Endpoint as Head}
+use Rattle.saved.proofs.OneStore.{loaded-one, record-inside, length-told}
+use Rattle.commands_reply.specs.Obeys.{endsOf}
+use Rattle.commands_checks.specs.Met.{namesOne, metBy, metOf, metIn}
+use Rattle.commands_checks.specs.Named.{Named}
+use Rattle.commands_checks.specs.declared.preambles.Spot.{Spot}
+use Rattle.commands_checks.specs.declared.preambles.Met.{Met}
+use Rattle.commands_checks.specs.declared.preambles.Met.the-variants.{Refused, Here}
+
+-- ---- What the code answers
+
+pub names-some : (s : Signal) → namesOne s ≡ true → (n : ℕ) → lengthRight s n ≡ true → 1 ≤ n
+unfolding namesOne lengthRight
+names-some Discover o n h = clash refl (sym o)
+names-some GetCapabilities o n h = let e = eqb-true n 1 h in omega arith
+names-some SetConfiguration o n h = let e = leb-true 2 n h in omega arith
+names-some GetConfiguration o n h = let e = eqb-true n 1 h in omega arith
+names-some Reconfigure o n h = let e = leb-true 3 n h in omega arith
+names-some OpenUp o n h = let e = eqb-true n 1 h in omega arith
+names-some Start o n h = clash refl (sym o)
+names-some Close o n h = let e = eqb-true n 1 h in omega arith
+names-some Suspend o n h = clash refl (sym o)
+names-some Abort o n h = let e = eqb-true n 1 h in omega arith
+names-some SecurityControl o n h = leb-true 1 n h
+names-some GetAllCapabilities o n h = let e = eqb-true n 1 h in omega arith
+names-some DelayReport o n h = let e = eqb-true n 3 h in omega arith
+names-some Unassigned o n h = clash refl (sym o)
+
+module _ (signal : Signal) (book records : List ℕ) (s : OurSeid) where
+  pub met-unknown : placeIn s book ≡ Unknown → Refused 0x12 ≡ metOf signal book records s
+  unfolding metOf metBy
+  met-unknown u = rw u
+
+  module _ (right : bookNumber book ≡ 0) (held : Held (length (bookOf book)) records) {i kind from size : ℕ}
+      (k : placeIn s book ≡ Known i kind from size) where
+    inside : i < length (bookOf book)
+    inside = placed-in s book i kind from size right k .counted
+
+    pub met-inside : (i + 1) * recordRoom ≤ length records
+    met-inside = record-inside (length (bookOf book)) i records inside held
+
+    module _ {h : Head} (got : h ≡ loaded (recordAt i records)) {b : Bool} (test : b ≡ may signal (h .state) (h .channel)) where
+      shown : endAt (endsOf book records) i ≡ endpointOf h (configAt i records)
+      shown =
+          loaded-one (length (bookOf book)) i records inside ∙ ap (λ (x : Head). endpointOf x (configAt i records)) (sym got)
+
+      pub met-here : b ≡ true → Here (record { index = i; kind = kind; from = from; size = size }) ≡ metOf signal book records s
+      unfolding metOf metBy endpointOf
+      met-here t = rw (k, shown, ← test, t)
+
+      pub met-wrong : b ≡ false → {code : ℕ} → code ≡ wrongState signal (h .state) → Refused code ≡ metOf signal book records s
+      unfolding metOf metBy endpointOf
+      met-wrong f c = rw (k, shown, ← test, f, ← c)
+
+module _ (signal : Signal) (book records p : List ℕ) {b : Bool} (test : b ≡ lengthRight signal (length p)) where
+  pub met-long : b ≡ true → {m : Met} → m ≡ metOf signal book records (ourIn (getD p 0 0)) → m ≡ metIn signal book records p
+  unfolding metIn
+  met-long t e = rw (← test, t) e
+
+  pub met-short : b ≡ false → Refused 0x11 ≡ metIn signal book records p
+  unfolding metIn
+  met-short f = rw (← test, f)
+
+-- ---- What it comes to in the definitions
+
+unfoldable pub metAs : OurSeid → List ℕ → Met → MetBy
+metAs s b (Refused code) = refused code
+metAs s b (Here at) = here (at .index) (entryBy s b (at .kind) (at .from) (at .size))
+
+by-may : (s : OurSeid) (b : List ℕ) (t : Bool) (at : Spot) (code : ℕ)
+  → (if t then here (at .index) (entryBy s b (at .kind) (at .from) (at .size)) else refused code)
+    ≡ metAs s b (if t then Here at else Refused code)
+unfolding metAs
+by-may s b true at code = refl
+by-may s b false at code = refl
+
+by-place : (signal : Signal) (ends : Ends) (s : OurSeid) (b : List ℕ) (place : Place)
+  → metAt signal ends (foundBy s place b) ≡ metAs s b (metBy signal ends place)
+unfolding metAt foundBy metBy metAs
+by-place signal ends s b Unknown = refl
+by-place signal ends s b (Known i kind from size) =
+    by-may s b (may signal (endAt ends i .state) (endAt ends i .channel)) (record { index = i; kind = kind; from = from; size = size })
+      (wrongState signal (endAt ends i .state))
+
+pub meets-as : (signal : Signal) (book records : List ℕ) (s : OurSeid)
+  → meetsBy signal (bookOf book) (endsOf book records) s ≡ metAs s book (metOf signal book records s)
+unfolding meetsBy metOf
+meets-as signal book records s =
+    ap (metAt signal (endsOf book records)) (found-as s book (placeIn s book) refl)
+    ∙ by-place signal (endsOf book records) s book (placeIn s book)
+
+by-length : (b : Bool) (s : OurSeid) (book : List ℕ) (x : MetBy) (m : Met) → x ≡ metAs s book m
+  → (if b then x else refused 0x11) ≡ metAs s book (if b then m else Refused 0x11)
+unfolding metAs
+by-length true s book x m e = e
+by-length false s book x m e = refl
+
+preamble-as : (signal : Signal) (book records p : List ℕ)
+  → preamble signal (bookOf book) (endsOf book records) p ≡ metAs (ourIn (getD p 0 0)) book (metIn signal book records p)
+unfolding preamble metIn
+preamble-as signal book records p =
+    by-length (lengthRight signal (length p)) (ourIn (getD p 0 0)) book _ _ (meets-as signal book records (ourIn (getD p 0 0)))
+
+-- ---- What the command leads to
+
+-- the entry that a payload names
+abbrev pub entryIn : List ℕ → List ℕ → Spot → Entry
+entryIn book p at = entryBy (ourIn (getD p 0 0)) book (at .kind) (at .from) (at .size)
+
+module _ (signal : Signal) (book records p : List ℕ) (on : ℕ → Entry → Outcome) where
+  outcome : {m : Met} → metIn signal book records p ≡ m
+    → named signal (bookOf book) (endsOf book records) p on
+      ≡ atMet signal (endsOf book records) on (metAs (ourIn (getD p 0 0)) book m)
+  unfolding named
+  outcome e =
+      ap (atMet signal (endsOf book records) on)
+        (preamble-as signal book records p ∙ ap (metAs (ourIn (getD p 0 0)) book) e)
+
+  pub refused-as : {code : ℕ} → metIn signal book records p ≡ Refused code
+    → named signal (bookOf book) (endsOf book records) p on ≡ stays (endsOf book records) (rejects signal 0 code)
+  unfolding metAs atMet
+  refused-as e = outcome e
+
+  pub acts-as : {at : Spot} → metIn signal book records p ≡ Here at
+    → named signal (bookOf book) (endsOf book records) p on ≡ on (at .index) (entryIn book p at)
+  unfolding metAs atMet
+  acts-as e = outcome e
+
+-- ---- The endpoint that was met
+
+-- what is known of it; h is its head
+pub record Stands (signal : Signal) (book records p : List ℕ) (at : Spot) : Type 0 where
+  pub long : lengthRight signal (length p) ≡ true
+  pub placed : Placed (ourIn (getD p 0 0)) book (at .index) (at .kind) (at .from) (at .size)
+  pub inside : (at .index + 1) * recordRoom ≤ length records
+  pub told : configSizeAt (at .index) records ≤ configRoom
+  pub shows : endAt (endsOf book records) (at .index)
+    ≡ endpointOf (loaded (recordAt (at .index) records)) (configAt (at .index) records)
+  pub lawful : legalEnd (entryIn book p at) (endAt (endsOf book records) (at .index)) ≡ true
+  pub takes : may signal (endAt (endsOf book records) (at .index) .state) (endAt (endsOf book records) (at .index) .channel) ≡ true
+
+record Seen (signal : Signal) (ends : Ends) (place : Place) (at : Spot) : Type 0 where
+  there : place ≡ Known (at .index) (at .kind) (at .from) (at .size)
+  takes : may signal (endAt ends (at .index) .state) (endAt ends (at .index) .channel) ≡ true
+
+seen-may : (signal : Signal) (ends : Ends) (i kind from size : ℕ) (at : Spot)
+  → Told? (may signal (endAt ends i .state) (endAt ends i .channel))
+  → metBy signal ends (Known i kind from size) ≡ Here at → Seen signal ends (Known i kind from size) at
+unfolding metBy
+seen-may signal ends i kind from size at (passed t) e =
+    let e′ : Here (record { index = i; kind = kind; from = from; size = size }) ≡ Here at = rw t at e in
+    let same : record { index = i; kind = kind; from = from; size = size } ≡ at = cc in
+    subst (λ (x : Spot). Seen signal ends (Known i kind from size) x) same (record { there = refl; takes = t })
+seen-may signal ends i kind from size at (failed f) e =
+    let e′ : Refused (wrongState signal (endAt ends i .state)) ≡ Here at = rw f at e in
+    let z : _≡_ {A = ℕ} 0 1 = cc in
+    absurd (omega arith)
+
+seen-place : (signal : Signal) (ends : Ends) (place : Place) (at : Spot) → metBy signal ends place ≡ Here at
+  → Seen signal ends place at
+unfolding metBy
+seen-place signal ends Unknown at e = let z : _≡_ {A = ℕ} 0 1 = cc in absurd (omega arith)
+seen-place signal ends (Known i kind from size) at e =
+    seen-may signal ends i kind from size at (told (may signal (endAt ends i .state) (endAt ends i .channel))) e
+
+-- where a SEID that passed stands
+pub met-placed : (signal : Signal) (book records : List ℕ) (s : OurSeid) (at : Spot) → bookNumber book ≡ 0
+  → metOf signal book records s ≡ Here at → Placed s book (at .index) (at .kind) (at .from) (at .size)
+unfolding metOf
+met-placed signal book records s at right e =
+    placed-in s book (at .index) (at .kind) (at .from) (at .size) right (seen-place signal (endsOf book records) _ at e .there)
+
+seen-long : (signal : Signal) (book records p : List ℕ) (at : Spot) → Told? (lengthRight signal (length p))
+  → metIn signal book records p ≡ Here at
+  → (lengthRight signal (length p) ≡ true) × Seen signal (endsOf book records) (placeIn (ourIn (getD p 0 0)) book) at
+unfolding metIn metOf
+seen-long signal book records p at (passed t) e = (t, seen-place signal (endsOf book records) _ at (rw t at e))
+seen-long signal book records p at (failed f) e =
+    let e′ : Refused 0x11 ≡ Here at = rw f at e in let z : _≡_ {A = ℕ} 0 1 = cc in absurd (omega arith)
+
+pub stands : {signal : Signal} {book records p reply : List ℕ} {at : Spot} → Named signal book records p reply at
+  → Stands signal book records p at
+stands {signal} {book} {records} {p} {reply} {at} call =
+    let s = ourIn (getD p 0 0) in
+    let n = length (bookOf book) in
+    let seen = seen-long signal book records p at (told (lengthRight signal (length p))) (call .met) in
+    let where-it-is = placed-in s book (at .index) (at .kind) (at .from) (at .size) (call .serves .right) (seen .1 .there) in
+    record {
+      long = seen .0;
+      placed = where-it-is;
+      inside = record-inside n (at .index) records (where-it-is .counted) (call .serves .held);
+      told = length-told n (at .index) records (where-it-is .counted) (call .serves .held);
+      shows = loaded-one n (at .index) records (where-it-is .counted);
+      lawful = legal-at (where-it-is .place) (endsIn n records) (call .serves .lawful);
+      takes = seen .1 .takes
+    }
+
+-- Its configuration is no longer than a reply may be.
+pub config-short : {signal : Signal} {book records p : List ℕ} {at : Spot} → Stands signal book records p at
+  → length (configAt (at .index) records) ≤ 64
+unfolding endpointOf
+config-short {book = book} {records = records} {p = p} {at = at} it =
+    rw (it .shows) at
+      (end-short (entryIn book p at) (endAt (endsOf book records) (at .index)) (it .placed .right) (it .lawful))

@@ -1,0 +1,53 @@
+-- What the checks of a command come to, as the code tells it: as the definitions' `Met`, with the place of the entry in the book's
+-- octets for the entry.
+use Prim.Native.Nat.{ℕ}
+use mathlib.Core.List.{List}
+use mathlib.Core.Bool.{Bool, true, false}
+use lib.ListN.{length, getD}
+use Rattle.rules.specs.Octets.{if_then_else_}
+use Rattle.rules.specs.Walks.{placeIn}
+use Rattle.rules.specs.Endpoints.{Ends, endAt}
+use Rattle.rules.specs.Commands.{lengthRight, ourIn, may, wrongState}
+use Rattle.rules.specs.declared.OurSeid.{OurSeid}
+use Rattle.rules.specs.declared.Place.{Place}
+use Rattle.rules.specs.declared.Place.the-variants.{Unknown, Known}
+use Rattle.rules.specs.declared.Signal.{Signal}
+use Rattle.rules.specs.declared.Signal.the-variants.{Discover, GetCapabilities, SetConfiguration, GetConfiguration, Reconfigure, OpenUp}
+use Rattle.rules.specs.declared.Signal.the-variants.{Start, Close, Suspend, Abort, SecurityControl, GetAllCapabilities, DelayReport}
+use Rattle.rules.specs.declared.Signal.the-variants.{Unassigned}
+use Rattle.commands_reply.specs.Obeys.{endsOf}
+use Rattle.commands_checks.specs.declared.preambles.Met.{Met}
+use Rattle.commands_checks.specs.declared.preambles.Met.the-variants.{Refused, Here}
+
+-- the commands that name one endpoint
+unfoldable pub namesOne : Signal → Bool
+namesOne Discover = false
+namesOne GetCapabilities = true
+namesOne SetConfiguration = true
+namesOne GetConfiguration = true
+namesOne Reconfigure = true
+namesOne OpenUp = true
+namesOne Start = false
+namesOne Close = true
+namesOne Suspend = false
+namesOne Abort = true
+namesOne SecurityControl = true
+namesOne GetAllCapabilities = true
+namesOne DelayReport = true
+namesOne Unassigned = false
+
+unfoldable pub metBy : Signal → Ends → Place → Met
+metBy signal ends Unknown = Refused 0x12
+metBy signal ends (Known i kind from size) =
+    let e = endAt ends i in
+    if may signal (e .state) (e .channel) then Here (record { index = i; kind = kind; from = from; size = size })
+    else Refused (wrongState signal (e .state))
+
+-- known and state
+unfoldable pub metOf : Signal → List ℕ → List ℕ → OurSeid → Met
+metOf signal book records s = metBy signal (endsOf book records) (placeIn s book)
+
+-- length, known and state
+unfoldable pub metIn : Signal → List ℕ → List ℕ → List ℕ → Met
+metIn signal book records p =
+    if lengthRight signal (length p) then metOf signal book records (ourIn (getD p 0 0)) else Refused 0x11

@@ -1,0 +1,78 @@
+-- What is shown at the endpoint that was met: the list of its entry, or its configuration, which a reply has room for.
+use Prim.Native.Nat.{ℕ, _+_, _≤_}
+use mathlib.Core.Path.{_≡_, refl, sym, ap, _∙_}
+use mathlib.Core.List.{List, [], _∷_}
+use native.Mathlib.Nat.{zero-add}
+use native.Mathlib.Omega.{arith}
+use lib.ListN.{length}
+use Rattle.rules.specs.Octets.{front}
+use Rattle.rules.specs.Elements.{items}
+use Rattle.rules.specs.Book.{written, upToCodec, shownBy02, shownBy0C}
+use Rattle.rules.specs.Endpoints.{Endpoint}
+use Rattle.rules.specs.Commands.{accept, reject, stays, rejects, offersAt, configurationAt, securityAt, obey}
+use Rattle.rules.specs.Host.{payloadOf}
+use Rattle.rules.specs.Answers.{saidOf}
+use Rattle.rules.specs.declared.Said.{Said}
+use Rattle.rules.specs.declared.Signal.{Signal}
+use Rattle.rules.specs.declared.Signal.the-variants.{GetCapabilities, GetConfiguration, SecurityControl, GetAllCapabilities}
+use Rattle.rules.proofs.ShortReplies.{caps-short}
+use Rattle.octets.specs.Patch.{patch, part}
+use Rattle.octets.proofs.Patches.{front-patch}
+use Rattle.saved.specs.Records.{endpointOf, configAt}
+use Rattle.commands_reply.specs.Obeys.{endsOf, Obeys}
+use Rattle.commands_checks.specs.Named.{Named}
+use Rattle.commands_checks.specs.declared.preambles.Spot.{Spot}
+use Rattle.commands_checks.proofs.Meeting.{entryIn, stands, config-short}
+use Rattle.commands_checks.proofs.Acting.{did-say}
+use Rattle.commands_show.specs.Says.{Says}
+
+module _ {signal : Signal} {book records p reply : List ℕ} {at : Spot} (call : Named signal book records p reply at) where
+  -- the list lies in the book, and it fits
+  pub list-inside : at .from + at .size ≤ length book
+  list-inside = stands call .placed .inside
+
+  pub list-fits : {q : List ℕ} → q ≡ part (at .from) (at .size) book → length q ≤ length reply
+  unfolding part
+  list-fits e =
+      omega (arith, ap length e, caps-short (entryIn book p at) (stands call .placed .right), call .serves .room)
+
+  pub config-fits : {q : List ℕ} → q ≡ configAt (at .index) records → length q ≤ length reply
+  config-fits e = omega (arith, ap length e, config-short (stands call), call .serves .room)
+
+module _ {book records p reply : List ℕ} {at : Spot} where
+  pub shows-some : Named GetCapabilities book records p reply at → {q reply′ : List ℕ} {n : ℕ} → q ≡ part (at .from) (at .size) book
+    → (reply′ ≡ patch 0 (written (upToCodec (items q))) reply) × (n ≡ 0 + length (written (upToCodec (items q))))
+    → Obeys (obey GetCapabilities) book records p reply (record { kind = 2; length = n }) records reply′
+  unfolding obey offersAt shownBy02 part saidOf payloadOf
+  shows-some call {q} e h =
+      let shown = written (upToCodec (items q)) in
+      let same = ap (λ (l : List ℕ). written (upToCodec (items l))) e in
+      did-say call (offersAt shownBy02 (endsOf book records)) refl (accept shown)
+        (ap (λ (l : List ℕ). stays (endsOf book records) (accept l)) (sym same))
+        (ap (λ (k : ℕ). record { kind = 2; length = k }) (h .1 ∙ zero-add (length shown)))
+        (h .0 ∙ sym (front-patch shown reply))
+
+  pub shows-all : Named GetAllCapabilities book records p reply at → {q reply′ : List ℕ} {said : Said}
+    → q ≡ part (at .from) (at .size) book → Says (accept q) said reply reply′
+    → Obeys (obey GetAllCapabilities) book records p reply said records reply′
+  unfolding obey offersAt shownBy0C part
+  shows-all call {q} e h =
+      did-say call (offersAt shownBy0C (endsOf book records)) refl (accept q)
+        (ap (λ (l : List ℕ). stays (endsOf book records) (accept l)) (sym e)) (h .told) (h .written)
+
+  pub shows-config : Named GetConfiguration book records p reply at → {q reply′ : List ℕ} {said : Said}
+    → q ≡ configAt (at .index) records → Says (accept q) said reply reply′
+    → Obeys (obey GetConfiguration) book records p reply said records reply′
+  unfolding obey configurationAt endpointOf
+  shows-config call {q} e h =
+      did-say call (configurationAt (endsOf book records)) refl (accept q)
+        (ap (λ (x : Endpoint). stays (endsOf book records) (accept (x .config))) (stands call .shows)
+         ∙ ap (λ (l : List ℕ). stays (endsOf book records) (accept l)) (sym e))
+        (h .told) (h .written)
+
+  pub shows-none : Named SecurityControl book records p reply at → {reply′ : List ℕ} {said : Said}
+    → (said ≡ saidOf (reject (0x19 ∷ []))) × (reply′ ≡ front (0x19 ∷ []) reply)
+    → Obeys (obey SecurityControl) book records p reply said records reply′
+  unfolding obey securityAt rejects payloadOf
+  shows-none call h =
+      did-say call (securityAt (endsOf book records)) refl (rejects SecurityControl 0 0x19) refl (h .0) (h .1)

@@ -1,0 +1,35 @@
+-- `shift_one` meets its contract: the head that `in_state` answers is what `set` writes.
+use Prim.Native.Nat.{_*_}
+use mathlib.Core.Path.{ap, _∙_}
+use borrow.Author.Needs.{needs}
+use Rattle.rules.specs.Saved.{recordRoom}
+use Rattle.octets.specs.Patch.{patch}
+use Rattle.saved.specs.Records.{headOctets}
+use Rattle.saved.specs.Moved.{inStateHead}
+use Rattle.commands_stream.proofs.shifts.shift_one.Statement.{statement}
+use Rattle.commands_stream.proofs.shifts.shift_one.Tie as tie
+
+get-requires : tie.Need-get-requires
+get-requires c κs = search needs
+
+in-state-requires : tie.Need-in-state-requires
+in-state-requires c κs = search needs
+
+set-requires : tie.Need-set-requires
+set-requires c κs = search needs
+
+same-length : tie.Need-same-length
+same-length c = search needs
+
+returns : tie.Need-returns
+returns c =
+    let stored = c .before .before in
+    let moved = stored .before in
+    let got = moved .before .before in
+    let args = got .before .before .before .args in
+    stored .set .ensures
+    ∙ ap (λ h. patch (args .index * recordRoom) (headOctets h) (args .records .now))
+        (moved .in-state .ensures ∙ ap (inStateHead (args .to)) (got .get .ensures))
+
+pub shift-one-spec : {M : Type 1} → statement M
+shift-one-spec = tie.close (tie.spec get-requires in-state-requires set-requires same-length returns)

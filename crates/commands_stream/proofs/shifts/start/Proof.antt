@@ -1,0 +1,21 @@
+-- `start` meets its contract: it is the shift of its signal.
+use borrow.Author.Needs.{needs}
+use Rattle.rules.specs.Commands.{obey}
+use Rattle.commands_stream.proofs.shifts.start.Statement.{statement}
+use Rattle.commands_stream.proofs.shifts.start.Tie as tie
+
+shift-requires : tie.Need-shift-requires
+shift-requires c κs = search needs
+
+same-length : tie.Need-same-length
+same-length c = search needs
+
+same-length-2 : tie.Need-same-length-2
+same-length-2 c = search needs
+
+returns : tie.Need-returns
+unfolding obey
+returns c = search needs
+
+pub start-spec : {M : Type 1} → statement M
+start-spec = tie.close (tie.spec shift-requires same-length same-length-2 returns)

@@ -1,0 +1,40 @@
+// 0D Delay Report: the delay in tenths of a millisecond, high octet first.
+use commands_checks::preambles::Spot;
+use rules::Said;
+use saved::moves::delayed;
+use saved::records::config;
+use saved::records::get;
+use saved::records::set;
+
+ghost use mathlib.Core.Path.{_≡_};
+ghost use mathlib.Core.Bool.{_&&_};
+ghost use Rattle.rules.specs.Elements.{items, has};
+ghost use Rattle.rules.specs.Book.{isSource};
+ghost use Rattle.rules.specs.Commands.{obey};
+ghost use Rattle.rules.specs.declared.Signal.the-variants.{DelayReport};
+ghost use Rattle.commands_reply.specs.Obeys.{Obeys};
+ghost use Rattle.commands_checks.specs.Named.{Named};
+
+// Whether a delay can be reported: to a source whose configuration has category 8, which has no value.
+fn takes_delay(kind: u8, config: &[u8]) -> bool
+    ensures { λ r. ⌜ r ≡ isSource kind && has 8 (items (now (config .entry))) ⌝ }
+{
+    if kind / 8 % 2 != 0 {
+        return false;
+    }
+    elements::offers::offers(config, 0, 8, b"")
+}
+
+pub fn delay_report(book: &[u8], records: &mut [u8], payload: &[u8], reply: &mut [u8], at: Spot) -> Said
+    requires { ⌜ Named DelayReport (now book) (now records) (now payload) (now reply) at ⌝ }
+    ensures { λ r. ⌜ Obeys (obey DelayReport) (now (book .entry)) (now (records .entry)) (now (payload .entry)) (now (reply .entry))
+      r (now (records .exit)) (now (reply .exit)) ⌝ }
+{
+    if !takes_delay(at.kind, config(records, at.index)) {
+        return commands_reply::rejected(reply, 0x19);
+    }
+    let e = get(records, at.index);
+    let tenths = payload[1] as u16 * 256 + payload[2] as u16;
+    set(records, at.index, delayed(e, tenths));
+    commands_reply::accepted()
+}
