@@ -38,8 +38,8 @@ found c =
     let args = start-of (c .before .before .before) .args in
     c .check .ensures ∙ ap (λ (l : List ℕ). checkOf Setting (items l) (args .payload .now) 2) (c .before .part .ensures)
 
-shared-slice-read-t13 : tie.Need-shared-slice-read-t13
-shared-slice-read-t13 c = two (c .before .before .before .before .before .pre)
+shared-slice-read-t12 : tie.Need-shared-slice-read-t12
+shared-slice-read-t12 c = two (c .before .before .before .before .before .pre)
 
 far-right-requires : tie.Need-far-right-requires
 far-right-requires c κs = search needs
@@ -126,7 +126,7 @@ pub set-configuration-spec : {M : Type 1} → statement M
 set-configuration-spec =
     tie.close
     (tie.spec
-    shared-slice-read-t13
+    shared-slice-read-t12
     far-right-requires
     rejected-for-requires
     same-length
