@@ -1,12 +1,12 @@
 -- What a command on one endpoint leads to, from what is done there: the checks passed, so that the outcome is the command's own.
-use Prim.Native.Nat.{ℕ, _*_}
+use Prim.Native.Nat.{ℕ}
 use mathlib.Core.Path.{_≡_, _∙_}
 use mathlib.Core.List.{List, []}
-use lib.ListN.{length, set}
+use lib.ListN.{set}
 use Rattle.rules.specs.Octets.{front}
 use Rattle.rules.specs.Book.{Entry, bookOf}
 use Rattle.rules.specs.Endpoints.{Endpoint}
-use Rattle.rules.specs.Saved.{recordRoom, storeEnds}
+use Rattle.rules.specs.Saved.{storeEnds}
 use Rattle.rules.specs.Commands.{Reply, accept, Outcome, stays, moves, named, obey}
 use Rattle.rules.specs.Host.{payloadOf}
 use Rattle.rules.specs.Answers.{saidOf}

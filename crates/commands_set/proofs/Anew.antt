@@ -1,5 +1,5 @@
--- What Reconfigure does at the endpoint that was met: the stored configuration is copied and checked for its marks, which it passes
--- since it could be stored, and with the new elements in place it could be stored again.
+-- What Reconfigure does at the endpoint that was met: the stored configuration is copied and checked for its marks, which it
+-- passes since it could be stored, and with the new elements in place it could be stored again.
 use Prim.Native.Nat.{ℕ, _+_, _*_, _≤_}
 use mathlib.Core.Path.{_≡_, refl, sym, ap, ap₂, _∙_, subst}
 use mathlib.Core.List.{List, [], _∷_}

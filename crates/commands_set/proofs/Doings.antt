@@ -1,5 +1,5 @@
--- What both commands come to: the answer by what the check of the elements finds, and a configuration written with its head, which
--- are two writes of which the second stands right before the first.
+-- What both commands come to: the answer by what the check of the elements finds, and a configuration written with its head,
+-- which are two writes of which the second stands right before the first.
 use Prim.Native.Nat.{ℕ, _+_, _*_, _≤_}
 use native.Mathlib.Omega.{arith}
 use mathlib.Core.Path.{_≡_, refl, sym, ap, _∙_}

@@ -1,6 +1,6 @@
 -- What is shown at the endpoint that was met: the list of its entry, or its configuration, which a reply has room for.
 use Prim.Native.Nat.{ℕ, _+_, _≤_}
-use mathlib.Core.Path.{_≡_, refl, sym, ap, _∙_, subst}
+use mathlib.Core.Path.{_≡_, refl, sym, ap, _∙_}
 use mathlib.Core.List.{List, [], _∷_}
 use native.Mathlib.Nat.{zero-add}
 use native.Mathlib.Omega.{arith}
@@ -8,7 +8,7 @@ use lib.ListN.{length}
 use Rattle.rules.specs.Octets.{front}
 use Rattle.rules.specs.Elements.{items}
 use Rattle.rules.specs.Book.{written, upToCodec, shownBy02, shownBy0C}
-use Rattle.rules.specs.Endpoints.{Endpoint, endAt}
+use Rattle.rules.specs.Endpoints.{Endpoint}
 use Rattle.rules.specs.Commands.{accept, reject, stays, rejects, offersAt, configurationAt, securityAt, obey}
 use Rattle.rules.specs.Host.{payloadOf}
 use Rattle.rules.specs.Answers.{saidOf}
@@ -40,7 +40,8 @@ module _ {signal : Signal} {book records p reply : List ℕ} {at : Spot} (call :
   config-fits e = omega (arith, ap length e, config-short (stands call), call .serves .room)
 
 module _ {book records p reply : List ℕ} {at : Spot} where
-  pub shows-some : Named GetCapabilities book records p reply at → {q reply′ : List ℕ} {n : ℕ} → q ≡ part (at .from) (at .size) book
+  pub shows-some : Named GetCapabilities book records p reply at → {q reply′ : List ℕ} {n : ℕ}
+    → q ≡ part (at .from) (at .size) book
     → (reply′ ≡ patch 0 (written (upToCodec (items q))) reply) × (n ≡ 0 + length (written (upToCodec (items q))))
     → Obeys (obey GetCapabilities) book records p reply (record { kind = 2; length = n }) records reply′
   unfolding obey offersAt shownBy02 part saidOf payloadOf

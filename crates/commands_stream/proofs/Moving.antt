@@ -1,5 +1,5 @@
--- What is done at the endpoint that was met where its configuration stays: the head alone is written, which stores the endpoints with
--- the one moved.
+-- What is done at the endpoint that was met where its configuration stays: the head alone is written, which stores the endpoints
+-- with the one moved.
 use Prim.Native.Nat.{ℕ, _*_}
 use mathlib.Core.Path.{_≡_, refl, sym, ap, _∙_}
 use mathlib.Core.List.{List, [], _∷_}
@@ -12,7 +12,7 @@ use Rattle.rules.specs.Elements.{items, has}
 use Rattle.rules.specs.Book.{Entry, bookOf, isSource}
 use Rattle.rules.specs.Endpoints.{Endpoint, awaiting, takesDelay, inState, withChannel, withDelay, leaving, endAt}
 use Rattle.rules.specs.Saved.{recordRoom, endsIn, pairIn}
-use Rattle.rules.specs.Commands.{accept, reject, Outcome, stays, moves, rejects, named, openAt, leaveAt, delayAt, obey}
+use Rattle.rules.specs.Commands.{accept, reject, Outcome, moves, rejects, named, openAt, leaveAt, delayAt, obey}
 use Rattle.rules.specs.Host.{payloadOf}
 use Rattle.rules.specs.Answers.{saidOf}
 use Rattle.rules.specs.declared.Said.{Said}

@@ -1,8 +1,7 @@
--- Start and Suspend, SEID by SEID: the records show the endpoints that the definition has reached, and hold what storing those over
--- the first records gives. So what is left of the listed SEIDs decides, and a stop leaves what was shifted.
+-- Start and Suspend, SEID by SEID: the records show the endpoints that the definition has reached, and hold what storing those
+-- over the first records gives. So what is left of the listed SEIDs decides, and a stop leaves what was shifted.
 use Prim.Native.Nat.{ℕ, suc, _+_, _*_, _/_, _≤_, _<_}
 use native.Mathlib.Numerals.{add-one}
-use native.Mathlib.Omega.{arith}
 use mathlib.Core.Path.{_≡_, refl, sym, ap, _∙_}
 use mathlib.Core.List.{List, []}
 use mathlib.Core.Bool.{true, false}
@@ -10,12 +9,11 @@ use lib.ListN.{length, drop, getD, set}
 use lib.Seq.{drop-cons, drop-length}
 use Rattle.rules.specs.Octets.{front}
 use Rattle.rules.specs.Book.{bookNumber, bookOf}
-use Rattle.rules.specs.Endpoints.{Endpoint, Ends, inState, endAt}
+use Rattle.rules.specs.Endpoints.{Ends, inState, endAt}
 use Rattle.rules.specs.Saved.{recordRoom, recordsRight, endsIn, storeEnds}
-use Rattle.rules.specs.Commands.{Reply, accept, Outcome, stays, rejects, lengthRight, ourIn, shiftOne, shiftEach, shift}
+use Rattle.rules.specs.Commands.{Reply, accept, stays, rejects, lengthRight, ourIn, shiftOne, shiftEach, shift}
 use Rattle.rules.specs.Host.{payloadOf}
 use Rattle.rules.specs.Answers.{saidOf}
-use Rattle.rules.specs.declared.OurSeid.{OurSeid}
 use Rattle.rules.specs.declared.Said.{Said}
 use Rattle.rules.specs.declared.State.{State}
 use Rattle.rules.specs.declared.Signal.{Signal}
@@ -113,7 +111,10 @@ module _ (signal : Signal) (to : State) where
         fits : (ends : Ends) → Kept ends (endsOf book l) → (m : List ℕ) → length m ≡ length l → Fits ends m
         fits ends k m e =
             let n = kept-length k ∙ length-endsIn (length (bookOf book)) l in
-            record { short = kept-short k (read-short (length (bookOf book)) l (r .held .right)); room = rw (n, e) (r .held .room) }
+            record {
+              short = kept-short k (read-short (length (bookOf book)) l (r .held .right));
+              room = rw (n, e) (r .held .room)
+            }
 
         pub reached-next : {l′ : List ℕ}
           → l′ ≡ patch (at .index * recordRoom) (headOctets (inStateHead to (loaded (recordAt (at .index) l)))) l

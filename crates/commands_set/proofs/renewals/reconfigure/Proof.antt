@@ -23,7 +23,8 @@ start-of c = c .before .before .before .before .before
 found : (c : tie.After-renewed-elements)
   → let args = start-of (c .before) .args in
     c .renewed-elements .result
-    ≡ walkOf Reconfiguring (items (take (args .at .size) (drop (args .at .from) (args .book .now)))) (args .payload .now) 1 noMarks
+    ≡ walkOf Reconfiguring (items (take (args .at .size) (drop (args .at .from) (args .book .now)))) (args .payload .now) 1
+        noMarks
 unfolding part
 found c =
     let args = start-of (c .before) .args in

@@ -87,7 +87,8 @@ keep-requires : tie.Need-keep-requires
 keep-requires c κs =
     let clean = c .before .before .before .before .before .before in
     let checked = clean .before .before in
-    set-keeps (start-of (checked .before .before .before) .pre) (sym (found checked) ∙ clean .walked2 .given .1) (c .none .ensures)
+    set-keeps (start-of (checked .before .before .before) .pre) (sym (found checked) ∙ clean .walked2 .given .1)
+      (c .none .ensures)
 
 accepted-requires : tie.Need-accepted-requires
 accepted-requires c κs = search needs
