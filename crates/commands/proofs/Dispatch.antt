@@ -1,5 +1,5 @@
--- A command by its signal: what the function of the signal that an arm knows answers is what is answered for the signal that was given,
--- and a refusal by the checks is the outcome of every command that names one endpoint.
+-- A command by its signal: what is answered for the signal that an arm knows is answered for the one that was given, and a
+-- refusal by the checks is the outcome of every command that names one endpoint.
 use Prim.Native.Nat.{ℕ}
 use mathlib.Core.Path.{_≡_, refl, sym, subst}
 use mathlib.Core.List.{List, [], _∷_}
@@ -13,9 +13,9 @@ use Rattle.rules.specs.Host.{payloadOf}
 use Rattle.rules.specs.Answers.{saidOf}
 use Rattle.rules.specs.declared.Said.{Said}
 use Rattle.rules.specs.declared.Signal.{Signal}
-use Rattle.rules.specs.declared.Signal.the-variants.{Discover, GetCapabilities, SetConfiguration, GetConfiguration, Reconfigure, OpenUp}
-use Rattle.rules.specs.declared.Signal.the-variants.{Start, Close, Suspend, Abort, SecurityControl, GetAllCapabilities, DelayReport}
-use Rattle.rules.specs.declared.Signal.the-variants.{Unassigned}
+use Rattle.rules.specs.declared.Signal.the-variants.{Discover, GetCapabilities, SetConfiguration, GetConfiguration, Reconfigure}
+use Rattle.rules.specs.declared.Signal.the-variants.{OpenUp, Start, Close, Suspend, Abort, SecurityControl, GetAllCapabilities}
+use Rattle.rules.specs.declared.Signal.the-variants.{DelayReport, Unassigned}
 use Rattle.rules.proofs.Signal.{the-type}
 use Rattle.rules.proofs.Tests.{clash}
 use Rattle.saved.specs.Serves.{Serves}
@@ -29,7 +29,8 @@ use Rattle.commands_checks.proofs.Meeting.{refused-as}
 
 -- ---- The signal that an arm knows
 
-pub known-named : {s t : Signal} {book l p area : List ℕ} {at : Spot} → s ≡ t → Named s book l p area at → Named t book l p area at
+pub known-named : {s t : Signal} {book l p area : List ℕ} {at : Spot} → s ≡ t → Named s book l p area at
+  → Named t book l p area at
 known-named {book = book} {l = l} {p = p} {area = area} {at = at} e h = subst (λ (x : Signal). Named x book l p area at) e h
 
 module _ (book l p area : List ℕ) {s t : Signal} {said : Said} {l′ area′ : List ℕ} where

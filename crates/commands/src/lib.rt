@@ -1,5 +1,5 @@
-// The dispatcher: every message that is complete goes to its command, by the signal. A command that names one endpoint begins with the
-// checks that all of them share, and then does at the endpoint what is its own.
+// The dispatcher: every message that is complete goes to its command, by the signal. A command that names one endpoint begins
+// with the checks that all of them share, and then does at the endpoint what is its own.
 use commands_checks::preambles::Met;
 use commands_checks::preambles::Spot;
 use commands_checks::preambles::preamble;

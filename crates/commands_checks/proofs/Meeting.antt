@@ -1,5 +1,5 @@
--- What the checks come to, against the definitions: by the length, by the SEID's place in the book, and by the state that the record
--- there tells.
+-- What the checks come to, against the definitions: by the length, by the SEID's place in the book, and by the state that the
+-- record there tells.
 use Prim.Native.Nat.{ℕ, _+_, _*_, _≤_, _<_}
 use mathlib.Core.Path.{_≡_, refl, sym, ap, _∙_, subst}
 use mathlib.Core.List.{List}
@@ -18,9 +18,9 @@ use Rattle.rules.specs.declared.OurSeid.{OurSeid}
 use Rattle.rules.specs.declared.Place.{Place}
 use Rattle.rules.specs.declared.Place.the-variants.{Unknown, Known}
 use Rattle.rules.specs.declared.Signal.{Signal}
-use Rattle.rules.specs.declared.Signal.the-variants.{Discover, GetCapabilities, SetConfiguration, GetConfiguration, Reconfigure, OpenUp}
-use Rattle.rules.specs.declared.Signal.the-variants.{Start, Close, Suspend, Abort, SecurityControl, GetAllCapabilities, DelayReport}
-use Rattle.rules.specs.declared.Signal.the-variants.{Unassigned}
+use Rattle.rules.specs.declared.Signal.the-variants.{Discover, GetCapabilities, SetConfiguration, GetConfiguration, Reconfigure}
+use Rattle.rules.specs.declared.Signal.the-variants.{OpenUp, Start, Close, Suspend, Abort, SecurityControl, GetAllCapabilities}
+use Rattle.rules.specs.declared.Signal.the-variants.{DelayReport, Unassigned}
 use Rattle.rules.proofs.Tests.{Told?, told, passed, failed, clash}
 use Rattle.rules.proofs.Places.{legal-at}
 use Rattle.rules.proofs.ShortReplies.{end-short}
@@ -108,8 +108,8 @@ by-place : (signal : Signal) (ends : Ends) (s : OurSeid) (b : List ℕ) (place :
 unfolding metAt foundBy metBy metAs
 by-place signal ends s b Unknown = refl
 by-place signal ends s b (Known i kind from size) =
-    by-may s b (may signal (endAt ends i .state) (endAt ends i .channel)) (record { index = i; kind = kind; from = from; size = size })
-      (wrongState signal (endAt ends i .state))
+    by-may s b (may signal (endAt ends i .state) (endAt ends i .channel))
+      (record { index = i; kind = kind; from = from; size = size }) (wrongState signal (endAt ends i .state))
 
 pub meets-as : (signal : Signal) (book records : List ℕ) (s : OurSeid)
   → meetsBy signal (bookOf book) (endsOf book records) s ≡ metAs s book (metOf signal book records s)
@@ -157,7 +157,7 @@ module _ (signal : Signal) (book records p : List ℕ) (on : ℕ → Entry → O
 
 -- ---- The endpoint that was met
 
--- what is known of it; h is its head
+-- what is known of it
 pub record Stands (signal : Signal) (book records p : List ℕ) (at : Spot) : Type 0 where
   pub long : lengthRight signal (length p) ≡ true
   pub placed : Placed (ourIn (getD p 0 0)) book (at .index) (at .kind) (at .from) (at .size)
@@ -166,7 +166,7 @@ pub record Stands (signal : Signal) (book records p : List ℕ) (at : Spot) : Ty
   pub shows : endAt (endsOf book records) (at .index)
     ≡ endpointOf (loaded (recordAt (at .index) records)) (configAt (at .index) records)
   pub lawful : legalEnd (entryIn book p at) (endAt (endsOf book records) (at .index)) ≡ true
-  pub takes : may signal (endAt (endsOf book records) (at .index) .state) (endAt (endsOf book records) (at .index) .channel) ≡ true
+  pub takes : let e = endAt (endsOf book records) (at .index) in may signal (e .state) (e .channel) ≡ true
 
 record Seen (signal : Signal) (ends : Ends) (place : Place) (at : Spot) : Type 0 where
   there : place ≡ Known (at .index) (at .kind) (at .from) (at .size)

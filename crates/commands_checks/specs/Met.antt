@@ -1,5 +1,5 @@
--- What the checks of a command come to, as the code tells it: as the definitions' `Met`, with the place of the entry in the book's
--- octets for the entry.
+-- What the checks of a command come to, as the code tells it: the definitions' `Met`, with the place of the entry in the book's
+-- octets in place of the entry.
 use Prim.Native.Nat.{ℕ}
 use mathlib.Core.List.{List}
 use mathlib.Core.Bool.{Bool, true, false}
@@ -12,9 +12,9 @@ use Rattle.rules.specs.declared.OurSeid.{OurSeid}
 use Rattle.rules.specs.declared.Place.{Place}
 use Rattle.rules.specs.declared.Place.the-variants.{Unknown, Known}
 use Rattle.rules.specs.declared.Signal.{Signal}
-use Rattle.rules.specs.declared.Signal.the-variants.{Discover, GetCapabilities, SetConfiguration, GetConfiguration, Reconfigure, OpenUp}
-use Rattle.rules.specs.declared.Signal.the-variants.{Start, Close, Suspend, Abort, SecurityControl, GetAllCapabilities, DelayReport}
-use Rattle.rules.specs.declared.Signal.the-variants.{Unassigned}
+use Rattle.rules.specs.declared.Signal.the-variants.{Discover, GetCapabilities, SetConfiguration, GetConfiguration, Reconfigure}
+use Rattle.rules.specs.declared.Signal.the-variants.{OpenUp, Start, Close, Suspend, Abort, SecurityControl, GetAllCapabilities}
+use Rattle.rules.specs.declared.Signal.the-variants.{DelayReport, Unassigned}
 use Rattle.commands_reply.specs.Obeys.{endsOf}
 use Rattle.commands_checks.specs.declared.preambles.Met.{Met}
 use Rattle.commands_checks.specs.declared.preambles.Met.the-variants.{Refused, Here}

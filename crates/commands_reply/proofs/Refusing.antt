@@ -6,9 +6,9 @@ use types.Run.{OneOf, miss}
 use denote.Enum.Declared.{tagOf}
 use Rattle.rules.specs.Commands.{reject, rejects}
 use Rattle.rules.specs.declared.Signal.{Signal}
-use Rattle.rules.specs.declared.Signal.the-variants.{Discover, GetCapabilities, SetConfiguration, GetConfiguration, Reconfigure, OpenUp}
-use Rattle.rules.specs.declared.Signal.the-variants.{Start, Close, Suspend, Abort, SecurityControl, GetAllCapabilities, DelayReport}
-use Rattle.rules.specs.declared.Signal.the-variants.{Unassigned}
+use Rattle.rules.specs.declared.Signal.the-variants.{Discover, GetCapabilities, SetConfiguration, GetConfiguration, Reconfigure}
+use Rattle.rules.specs.declared.Signal.the-variants.{OpenUp, Start, Close, Suspend, Abort, SecurityControl, GetAllCapabilities}
+use Rattle.rules.specs.declared.Signal.the-variants.{DelayReport, Unassigned}
 use Rattle.rules.proofs.Signal.{the-type}
 
 -- the signals with one of these places in the enum

@@ -40,7 +40,8 @@ module _ {signal : Signal} {book records p reply : List ℕ} {at : Spot} (call :
   config-fits e = omega (arith, ap length e, config-short (stands call), call .serves .room)
 
 module _ {book records p reply : List ℕ} {at : Spot} where
-  pub shows-some : Named GetCapabilities book records p reply at → {q reply′ : List ℕ} {n : ℕ} → q ≡ part (at .from) (at .size) book
+  pub shows-some : Named GetCapabilities book records p reply at → {q reply′ : List ℕ} {n : ℕ}
+    → q ≡ part (at .from) (at .size) book
     → (reply′ ≡ patch 0 (written (upToCodec (items q))) reply) × (n ≡ 0 + length (written (upToCodec (items q))))
     → Obeys (obey GetCapabilities) book records p reply (record { kind = 2; length = n }) records reply′
   unfolding obey offersAt shownBy02 part saidOf payloadOf

@@ -1,5 +1,5 @@
--- What is done at the endpoint that was met where its configuration stays: the head alone is written, which stores the endpoints with
--- the one moved.
+-- What is done at the endpoint that was met where its configuration stays: the head alone is written, which stores the endpoints
+-- with the one moved.
 use Prim.Native.Nat.{ℕ, _*_}
 use mathlib.Core.Path.{_≡_, refl, sym, ap, _∙_}
 use mathlib.Core.List.{List, [], _∷_}

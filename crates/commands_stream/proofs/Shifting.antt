@@ -1,5 +1,5 @@
--- Start and Suspend, SEID by SEID: the records show the endpoints that the definition has reached, and hold what storing those over
--- the first records gives. So what is left of the listed SEIDs decides, and a stop leaves what was shifted.
+-- Start and Suspend, SEID by SEID: the records show the endpoints that the definition has reached, and hold what storing those
+-- over the first records gives. So what is left of the listed SEIDs decides, and a stop leaves what was shifted.
 use Prim.Native.Nat.{ℕ, suc, _+_, _*_, _/_, _≤_, _<_}
 use native.Mathlib.Numerals.{add-one}
 use mathlib.Core.Path.{_≡_, refl, sym, ap, _∙_}
@@ -111,7 +111,10 @@ module _ (signal : Signal) (to : State) where
         fits : (ends : Ends) → Kept ends (endsOf book l) → (m : List ℕ) → length m ≡ length l → Fits ends m
         fits ends k m e =
             let n = kept-length k ∙ length-endsIn (length (bookOf book)) l in
-            record { short = kept-short k (read-short (length (bookOf book)) l (r .held .right)); room = rw (n, e) (r .held .room) }
+            record {
+              short = kept-short k (read-short (length (bookOf book)) l (r .held .right));
+              room = rw (n, e) (r .held .room)
+            }
 
         pub reached-next : {l′ : List ℕ}
           → l′ ≡ patch (at .index * recordRoom) (headOctets (inStateHead to (loaded (recordAt (at .index) l)))) l

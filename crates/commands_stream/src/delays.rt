@@ -27,8 +27,8 @@ fn takes_delay(kind: u8, config: &[u8]) -> bool
 
 pub fn delay_report(book: &[u8], records: &mut [u8], payload: &[u8], reply: &mut [u8], at: Spot) -> Said
     requires { ⌜ Named DelayReport (now book) (now records) (now payload) (now reply) at ⌝ }
-    ensures { λ r. ⌜ Obeys (obey DelayReport) (now (book .entry)) (now (records .entry)) (now (payload .entry)) (now (reply .entry))
-      r (now (records .exit)) (now (reply .exit)) ⌝ }
+    ensures { λ r. ⌜ Obeys (obey DelayReport) (now (book .entry)) (now (records .entry)) (now (payload .entry))
+      (now (reply .entry)) r (now (records .exit)) (now (reply .exit)) ⌝ }
 {
     if !takes_delay(at.kind, config(records, at.index)) {
         return commands_reply::rejected(reply, 0x19);

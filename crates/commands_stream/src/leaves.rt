@@ -22,7 +22,8 @@ fn leave(records: &mut [u8], index: usize, to: State) -> Said
     requires { ⌜ (index + 1) * recordRoom ≤ length (now records) ⌝ }
     ensures said { λ r. ⌜ r ≡ saidOf (accept []) ⌝ }
     ensures records { λ _. ⌜ now (records .exit)
-      ≡ patch (index * recordRoom) (headOctets (leavingHead to (loaded (recordAt index (now (records .entry)))))) (now (records .entry)) ⌝ }
+      ≡ patch (index * recordRoom) (headOctets (leavingHead to (loaded (recordAt index (now (records .entry))))))
+          (now (records .entry)) ⌝ }
 {
     let e = saved::records::get(records, index);
     saved::records::set(records, index, saved::moves::leaving(e, to));

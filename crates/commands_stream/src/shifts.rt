@@ -24,7 +24,8 @@ ghost use Rattle.commands_reply.specs.Obeys.{Obeys};
 fn shift_one(records: &mut [u8], index: usize, to: State)
     requires { ⌜ (index + 1) * recordRoom ≤ length (now records) ⌝ }
     ensures { λ _. ⌜ now (records .exit)
-      ≡ patch (index * recordRoom) (headOctets (inStateHead to (loaded (recordAt index (now (records .entry)))))) (now (records .entry)) ⌝ }
+      ≡ patch (index * recordRoom) (headOctets (inStateHead to (loaded (recordAt index (now (records .entry))))))
+          (now (records .entry)) ⌝ }
 {
     let e = saved::records::get(records, index);
     saved::records::set(records, index, saved::moves::in_state(e, to));
@@ -32,8 +33,8 @@ fn shift_one(records: &mut [u8], index: usize, to: State)
 
 fn shift(signal: Signal, to: State, book: &[u8], records: &mut [u8], payload: &[u8], reply: &mut [u8]) -> Said
     requires { ⌜ Serves (now book) (now records) (now payload) (now reply) ⌝ }
-    ensures { λ r. ⌜ Obeys (shiftBy signal to) (now (book .entry)) (now (records .entry)) (now (payload .entry)) (now (reply .entry))
-      r (now (records .exit)) (now (reply .exit)) ⌝ }
+    ensures { λ r. ⌜ Obeys (shiftBy signal to) (now (book .entry)) (now (records .entry)) (now (payload .entry))
+      (now (reply .entry)) r (now (records .exit)) (now (reply .exit)) ⌝ }
 {
     if !length_right(signal, payload.len()) {
         return commands_reply::refused(reply, signal, 0, 0x11);

@@ -16,9 +16,9 @@ use Rattle.rules.specs.Elements.{protection, compression, multiplexing, 
 use Rattle.rules.specs.Elements.{fixed, isStrange, itemCode, judge, itemCategory, blamed, faultOr, faultPast, faultIn, isOf, has}
 use Rattle.rules.specs.Book.{Entry, Book, Found, unknown, known, later, find, upToCodec, shownBy02}
 use Rattle.rules.specs.Packets.{Message}
-use Rattle.rules.specs.Endpoints.{Endpoint, Ends, Connection, idle, freshEnds, freshConnection, endAt, inState}
+use Rattle.rules.specs.Endpoints.{Ends, Connection, idle, freshEnds, freshConnection, endAt, inState}
 use Rattle.rules.specs.Endpoints.{downAt, happens}
-use Rattle.rules.specs.Commands.{accept, Outcome, stays, rejects, lengthRight, ourIn, may, wrongState, refused, here, metAt}
+use Rattle.rules.specs.Commands.{accept, Outcome, stays, rejects, lengthRight, ourIn, may, refused, here, metAt}
 use Rattle.rules.specs.Commands.{meets, preamble, atMet, named, discovered, discover, offersAt, setAt, configurationAt}
 use Rattle.rules.specs.Commands.{reconfigureAt, openAt, shiftOne, shiftEach, shift, leaveAt, securityAt, signalOf, obey}
 use Rattle.rules.specs.Commands.{answer, Met}
@@ -30,8 +30,8 @@ use Rattle.rules.specs.declared.State.{State}
 use Rattle.rules.specs.declared.Event.{Event}
 use Rattle.rules.specs.declared.Event.the-variants.{Down, Lost}
 use Rattle.rules.specs.declared.Signal.{Signal}
-use Rattle.rules.specs.declared.Signal.the-variants.{Discover, GetCapabilities, SetConfiguration, GetConfiguration, Reconfigure}
-use Rattle.rules.specs.declared.Signal.the-variants.{OpenUp, Start, Close, Suspend, Abort, SecurityControl}
+use Rattle.rules.specs.declared.Signal.the-variants.{Discover, GetCapabilities, SetConfiguration, GetConfiguration}
+use Rattle.rules.specs.declared.Signal.the-variants.{Reconfigure, OpenUp, Start, Close, Suspend, Abort, SecurityControl}
 use Rattle.rules.specs.declared.Signal.the-variants.{GetAllCapabilities, DelayReport, Unassigned}
 
 -- ---- Entries alike: same SEID, same kind, and same elements of categories 1 to 7
@@ -223,7 +223,8 @@ allowed-alike : (b : Bool) (code i : ℕ) (n n′ : Entry) → alikeEntry n n′
 allowed-alike true code i n n′ e = both-here i n n′ e
 allowed-alike false code i n n′ e = both-refused code
 
-met-alike : (signal : Signal) (ends : Ends) (f f′ : Found) → FoundAlike f f′ → MetAlike (metAt signal ends f) (metAt signal ends f′)
+met-alike : (signal : Signal) (ends : Ends) (f f′ : Found) → FoundAlike f f′
+    → MetAlike (metAt signal ends f) (metAt signal ends f′)
 unfolding metAt
 met-alike signal ends f f′ both-unknown = both-refused 0x12
 met-alike signal ends f f′ (both-known i n n′ e) = allowed-alike (may signal _ _) _ i n n′ e

@@ -22,13 +22,14 @@ use Rattle.rules.specs.declared.State.the-variants.{Open, Streaming, Clo
 use Rattle.rules.specs.declared.Channel.the-variants.{Awaited, Up}
 use Rattle.rules.specs.declared.Delay.the-variants.{Reported}
 use Rattle.rules.specs.declared.Signal.{Signal}
-use Rattle.rules.specs.declared.Signal.the-variants.{Discover, GetCapabilities, SetConfiguration, GetConfiguration, Reconfigure}
-use Rattle.rules.specs.declared.Signal.the-variants.{OpenUp, Start, Close, Suspend, Abort, SecurityControl}
+use Rattle.rules.specs.declared.Signal.the-variants.{Discover, GetCapabilities, SetConfiguration, GetConfiguration}
+use Rattle.rules.specs.declared.Signal.the-variants.{Reconfigure, OpenUp, Start, Close, Suspend, Abort, SecurityControl}
 use Rattle.rules.specs.declared.Signal.the-variants.{GetAllCapabilities, DelayReport, Unassigned}
 use Rattle.rules.proofs.Tests.{and-l, and-r}
 use Rattle.rules.proofs.Places.{At, legal-at, legal-set, awaits, awaiting-kept, awaiting-raised}
 use Rattle.rules.proofs.LegalMoves.{leaving-awaits, started-legal, suspended-legal, leaving-legal, opened-legal}
-use Rattle.rules.proofs.LegalMoves.{with-delay-legal, with-config-legal, settled-legal, busy-keeps, keeps-config, open-busy}
+use Rattle.rules.proofs.LegalMoves.{with-delay-legal, with-config-legal, settled-legal, busy-keeps, keeps-config}
+use Rattle.rules.proofs.LegalMoves.{open-busy}
 use Rattle.rules.proofs.Outcomes.{if-arms, Takes, named-arms, shift-arms}
 use Rattle.rules.proofs.Storable.{stored-could, restored-could, restored-has-8}
 

@@ -1,9 +1,9 @@
--- What a command that is not accepted leaves alone: Start and Suspend by induction on the SEIDs listed, every other command by its
--- branches, each of which either accepts or leaves the endpoints as they were.
+-- What a command that is not accepted leaves alone: Start and Suspend by induction on the SEIDs listed, every other command by
+-- its branches, each of which either accepts or leaves the endpoints as they were.
 use Prim.Native.Nat.{ℕ, zero, suc, _*_, _<_}
 use mathlib.Core.Path.{_≡_, refl, sym, ap, _∙_}
 use mathlib.Core.List.{List, [], _∷_}
-use mathlib.Core.Bool.{Bool, true, false, not, _&&_, _||_}
+use mathlib.Core.Bool.{Bool, true, false, not, _||_}
 use lib.ListN.{length, getD, drop, set}
 use lib.Seq.{getD-set-same, getD-set-other, lt-length-set}
 use lib.Dec.{eqb}
@@ -26,7 +26,7 @@ use Rattle.rules.specs.declared.State.the-variants.{Open, Streaming}
 use Rattle.rules.specs.declared.Signal.{Signal}
 use Rattle.rules.specs.declared.Signal.the-variants.{Start, Suspend}
 use Rattle.rules.proofs.Tests.{told, Told?, passed, failed, clash, and-l, and-r, and-both}
-use Rattle.rules.proofs.Outcomes.{if-arms, named-arms}
+use Rattle.rules.proofs.Outcomes.{named-arms}
 
 -- ---- Start and Suspend
 
@@ -120,7 +120,8 @@ unfolding movedOne standsAt endAt
 moved-once to unknown ends i h = refl
 moved-once to (known j n) ends i h = go (told (eqb i j))
   where
-    go : Told? (eqb i j) → getD (set ends j (inState to (endAt ends j))) i (idle (record { 0 = 0 })) ≡ movedIf (eqb i j) to (endAt ends i)
+    go : Told? (eqb i j)
+      → getD (set ends j (inState to (endAt ends j))) i (idle (record { 0 = 0 })) ≡ movedIf (eqb i j) to (endAt ends i)
     go (passed q) = rw (q, eqb-true i j q) (getD-set-same ends j _ _ (rw (eqb-true i j q) at h))
     go (failed q) = rw q (getD-set-other ends j i _ _ (eqb-false i j q))
 

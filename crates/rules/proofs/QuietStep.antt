@@ -19,9 +19,9 @@ use Rattle.rules.specs.Packets.{Message}
 use Rattle.rules.specs.Endpoints.{Endpoint, Ends, Connection, idle, freshEnds, isAwaited, isUp, isReported}
 use Rattle.rules.specs.Endpoints.{farRight, inState, withChannel, withConfig, forgotten, leaving, endAt, awaiting}
 use Rattle.rules.specs.Endpoints.{upIn, withEnds, Moved, downAt, happens}
-use Rattle.rules.specs.Commands.{Reply, Outcome, stays, moves, lengthRight, ourIn, farIn, named, discover, offersAt, settled}
-use Rattle.rules.specs.Commands.{setAt, configurationAt, reconfigureAt, openAt, shiftEach, shift, leaveAt, securityAt, signalOf}
-use Rattle.rules.specs.Commands.{obey, answer}
+use Rattle.rules.specs.Commands.{Reply, Outcome, stays, moves, lengthRight, ourIn, farIn, named, discover, offersAt}
+use Rattle.rules.specs.Commands.{settled, setAt, configurationAt, reconfigureAt, openAt, shiftEach, shift, leaveAt}
+use Rattle.rules.specs.Commands.{securityAt, signalOf, obey, answer}
 use Rattle.rules.specs.Alike.{usesDelay, noneReported}
 use Rattle.rules.specs.declared.OurSeid.{OurSeid}
 use Rattle.rules.specs.declared.Rule.the-variants.{Setting, Reconfiguring}
@@ -33,8 +33,8 @@ use Rattle.rules.specs.declared.Channel.the-variants.{Awaited, Up}
 use Rattle.rules.specs.declared.Event.{Event}
 use Rattle.rules.specs.declared.Event.the-variants.{Down, Lost}
 use Rattle.rules.specs.declared.Signal.{Signal}
-use Rattle.rules.specs.declared.Signal.the-variants.{Discover, GetCapabilities, SetConfiguration, GetConfiguration, Reconfigure}
-use Rattle.rules.specs.declared.Signal.the-variants.{OpenUp, Start, Close, Suspend, Abort, SecurityControl}
+use Rattle.rules.specs.declared.Signal.the-variants.{Discover, GetCapabilities, SetConfiguration, GetConfiguration}
+use Rattle.rules.specs.declared.Signal.the-variants.{Reconfigure, OpenUp, Start, Close, Suspend, Abort, SecurityControl}
 use Rattle.rules.specs.declared.Signal.the-variants.{GetAllCapabilities, DelayReport, Unassigned}
 
 -- ---- A test of each of a list

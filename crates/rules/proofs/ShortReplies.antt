@@ -23,8 +23,8 @@ use Rattle.rules.specs.Host.{payloadOf, turnOf, takes}
 use Rattle.rules.specs.declared.Rule.the-variants.{Setting, Reconfiguring}
 use Rattle.rules.specs.declared.State.{State}
 use Rattle.rules.specs.declared.Signal.{Signal}
-use Rattle.rules.specs.declared.Signal.the-variants.{Discover, GetCapabilities, SetConfiguration, GetConfiguration, Reconfigure}
-use Rattle.rules.specs.declared.Signal.the-variants.{OpenUp, Start, Close, Suspend, Abort, SecurityControl}
+use Rattle.rules.specs.declared.Signal.the-variants.{Discover, GetCapabilities, SetConfiguration, GetConfiguration}
+use Rattle.rules.specs.declared.Signal.the-variants.{Reconfigure, OpenUp, Start, Close, Suspend, Abort, SecurityControl}
 use Rattle.rules.specs.declared.Signal.the-variants.{GetAllCapabilities, DelayReport, Unassigned}
 use Rattle.rules.proofs.Tests.{Told?, told, passed, failed, clash, and-l, and-r, and-both}
 use Rattle.rules.proofs.Lists.{shown-length}

@@ -1,5 +1,5 @@
--- Every command: the checks that it begins with, and what it does at the endpoint that it names (document 01, Commands; 001, 8.5 to
--- 8.19).
+-- Every command: the checks that it begins with, and what it does at the endpoint that it names (document 01, Commands; 001, 8.5
+-- to 8.19).
 use Prim.Native.Nat.{ℕ, _+_, _*_, _/_}
 use mathlib.Core.List.{List, [], _∷_}
 use mathlib.Core.Bool.{Bool, true, false, not, _&&_, _||_}
@@ -22,8 +22,8 @@ use Rattle.rules.specs.declared.Channel.{Channel}
 use Rattle.rules.specs.declared.Channel.the-variants.{Absent, Awaited}
 use Rattle.rules.specs.declared.Delay.the-variants.{Unreported, Reported}
 use Rattle.rules.specs.declared.Signal.{Signal}
-use Rattle.rules.specs.declared.Signal.the-variants.{Discover, GetCapabilities, SetConfiguration, GetConfiguration, Reconfigure}
-use Rattle.rules.specs.declared.Signal.the-variants.{OpenUp, Start, Close, Suspend, Abort, SecurityControl}
+use Rattle.rules.specs.declared.Signal.the-variants.{Discover, GetCapabilities, SetConfiguration, GetConfiguration}
+use Rattle.rules.specs.declared.Signal.the-variants.{Reconfigure, OpenUp, Start, Close, Suspend, Abort, SecurityControl}
 use Rattle.rules.specs.declared.Signal.the-variants.{GetAllCapabilities, DelayReport, Unassigned}
 
 -- ---- The 64 signals (001, 8.5)
@@ -56,8 +56,8 @@ stays ends r = record { ends = ends; reply = r }
 unfoldable pub moves : Ends → ℕ → Endpoint → Outcome
 moves ends i e = record { ends = set ends i e; reply = accept [] }
 
--- A reject's payload is, of 03 and 05, a category then the code; of 07 and 09, a SEID times 4 then the code; of others, the code. A
--- refused Abort is silent.
+-- A reject's payload is, of 03 and 05, a category then the code; of 07 and 09, a SEID times 4 then the code; of others, the code.
+-- A refused Abort is silent.
 unfoldable pub rejects : Signal → ℕ → ℕ → Reply
 rejects Discover what code = reject (code ∷ [])
 rejects GetCapabilities what code = reject (code ∷ [])

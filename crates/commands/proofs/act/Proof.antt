@@ -9,25 +9,45 @@ act-spec =
     tie.close
     (tie.spec
     (λ c. search needs)
-    (λ c κs. let told = c .before .before in known-named (told .enum-told .given .1) (told .before .before .before .before .before .before .pre .1))
+    (λ c κs.
+       let told = c .before .before in
+       known-named (told .enum-told .given .1) (told .before .before .before .before .before .before .pre .1))
     (λ c. search needs)
-    (λ c κs. let told = c .before .before in known-named (told .enum-told2 .given .1) (told .before .before .before .before .before .before .pre .1))
+    (λ c κs.
+       let told = c .before .before in
+       known-named (told .enum-told2 .given .1) (told .before .before .before .before .before .before .pre .1))
     (λ c. search needs)
-    (λ c κs. let told = c .before .before in known-named (told .enum-told3 .given .1) (told .before .before .before .before .before .before .pre .1))
+    (λ c κs.
+       let told = c .before .before in
+       known-named (told .enum-told3 .given .1) (told .before .before .before .before .before .before .pre .1))
     (λ c. search needs)
-    (λ c κs. let told = c .before .before in known-named (told .enum-told4 .given .1) (told .before .before .before .before .before .before .pre .1))
+    (λ c κs.
+       let told = c .before .before in
+       known-named (told .enum-told4 .given .1) (told .before .before .before .before .before .before .pre .1))
     (λ c. search needs)
-    (λ c κs. let told = c .before .before in known-named (told .enum-told5 .given .1) (told .before .before .before .before .before .before .pre .1))
+    (λ c κs.
+       let told = c .before .before in
+       known-named (told .enum-told5 .given .1) (told .before .before .before .before .before .before .pre .1))
     (λ c. search needs)
-    (λ c κs. let told = c .before .before in known-named (told .enum-told6 .given .1) (told .before .before .before .before .before .before .pre .1))
+    (λ c κs.
+       let told = c .before .before in
+       known-named (told .enum-told6 .given .1) (told .before .before .before .before .before .before .pre .1))
     (λ c. search needs)
-    (λ c κs. let told = c .before .before in known-named (told .enum-told7 .given .1) (told .before .before .before .before .before .before .pre .1))
+    (λ c κs.
+       let told = c .before .before in
+       known-named (told .enum-told7 .given .1) (told .before .before .before .before .before .before .pre .1))
     (λ c. search needs)
-    (λ c κs. let told = c .before .before in known-named (told .enum-told8 .given .1) (told .before .before .before .before .before .before .pre .1))
+    (λ c κs.
+       let told = c .before .before in
+       known-named (told .enum-told8 .given .1) (told .before .before .before .before .before .before .pre .1))
     (λ c. search needs)
-    (λ c κs. let told = c .before .before in known-named (told .enum-told9 .given .1) (told .before .before .before .before .before .before .pre .1))
+    (λ c κs.
+       let told = c .before .before in
+       known-named (told .enum-told9 .given .1) (told .before .before .before .before .before .before .pre .1))
     (λ c. search needs)
-    (λ c κs. let told = c .before .before in known-named (told .enum-told10 .given .1) (told .before .before .before .before .before .before .pre .1))
+    (λ c κs.
+       let told = c .before .before in
+       known-named (told .enum-told10 .given .1) (told .before .before .before .before .before .before .pre .1))
     (λ c κs. search needs)
     (λ c. search needs)
     (λ c. search needs)

@@ -26,6 +26,6 @@ signal-of-spec =
     (λ c.
        let rest = c .match .rest in
        let least = rest .0 .0 .0 .0 .0 .0 .0 in
-       no-signal _ (least .0 .0 .0 .0 .0 .1) (least .0 .0 .0 .0 .1) (least .0 .0 .0 .1) (least .0 .0 .1) (least .0 .1) (least .1)
-         (rest .0 .0 .0 .0 .0 .0 .1) (rest .0 .0 .0 .0 .0 .1) (rest .0 .0 .0 .0 .1) (rest .0 .0 .0 .1) (rest .0 .0 .1) (rest .0 .1)
-         (rest .1)))
+       no-signal _ (least .0 .0 .0 .0 .0 .1) (least .0 .0 .0 .0 .1) (least .0 .0 .0 .1) (least .0 .0 .1) (least .0 .1)
+         (least .1) (rest .0 .0 .0 .0 .0 .0 .1) (rest .0 .0 .0 .0 .0 .1) (rest .0 .0 .0 .0 .1) (rest .0 .0 .0 .1)
+         (rest .0 .0 .1) (rest .0 .1) (rest .1)))

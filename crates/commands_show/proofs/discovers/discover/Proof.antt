@@ -27,7 +27,8 @@ unfolding obey discover
 said-by {book} {l} serves test e h =
     let all = accept (discovered (bookOf book) (endsOf book l)) in
     obeys-stay (obey Discover) serves _
-      (ap (λ (t : Bool). stays (endsOf book l) (if t then all else rejects Discover 0 0x11)) (sym test ∙ e)) (h .told) (h .written)
+      (ap (λ (t : Bool). stays (endsOf book l) (if t then all else rejects Discover 0 0x11)) (sym test ∙ e))
+      (h .told) (h .written)
 
 refused : {said : Said} {before after : List ℕ} → (said ≡ saidOf (reject (0x11 ∷ []))) × (after ≡ front (0x11 ∷ []) before)
   → Says (rejects Discover 0 0x11) said before after

@@ -17,7 +17,8 @@ returns : tie.Need-returns
 returns c =
     let accepted = c .before .before in
     let listed = accepted .before in
-    shows-all (listed .before .before .before .before .before .before .pre) (listed .part .ensures) (accepted .accepted-with .ensures)
+    shows-all (listed .before .before .before .before .before .before .pre) (listed .part .ensures)
+      (accepted .accepted-with .ensures)
 
 pub get-all-capabilities-spec : {M : Type 1} → statement M
 get-all-capabilities-spec = tie.close (tie.spec part-requires accepted-with-requires same-length returns)

@@ -7,7 +7,8 @@ use borrow.Author.Needs.{needs}
 use borrow.Author.Tests.{not-true, not-false}
 use Rattle.rules.specs.Octets.{front}
 use Rattle.rules.specs.Commands.{ourIn}
-use Rattle.commands_stream.proofs.Shifting.{none-listed, Reached, reached-first, shifted-all, stopped, record-there, reached-next}
+use Rattle.commands_stream.proofs.Shifting.{none-listed, Reached, reached-first, shifted-all, stopped, record-there}
+use Rattle.commands_stream.proofs.Shifting.{reached-next}
 use Rattle.commands_stream.proofs.shifts.shift.Statement.{statement}
 use Rattle.commands_stream.proofs.shifts.shift.Tie as tie
 
@@ -39,8 +40,8 @@ returns c =
     let test = refused .before .before in
     let tested = test .before in
     let args = start tested .args in
-    none-listed (args .signal) (args .to) (start tested .pre) (sym (tested .length-right .ensures) ∙ not-true _ (test .if1 .taken))
-      (refused .refused .ensures)
+    none-listed (args .signal) (args .to) (start tested .pre)
+      (sym (tested .length-right .ensures) ∙ not-true _ (test .if1 .taken)) (refused .refused .ensures)
 
 loop-holds : tie.Need-loop-holds Inv-loop μ-loop
 loop-holds c =
