@@ -12,20 +12,22 @@ use Rattle.rules.specs.Book.{bookNumber, bookOf}
 use Rattle.rules.specs.Packets.{Message, gather}
 use Rattle.rules.specs.Endpoints.{endAt, idle}
 use Rattle.rules.specs.Saved.{connectionIn, savedRight}
-use Rattle.rules.specs.Host.{Told, nothingSaid, Answered, packetCall}
+use Rattle.rules.specs.Host.{Kept, Told, nothingSaid, Answered, packetCall}
 use Rattle.rules.specs.Wires.{cutBy}
 use Rattle.rules.specs.Answers.{toldBy}
 use Rattle.rules.specs.Sessions
 use Rattle.rules.specs.Sessions.{check, fresh, packet, event, settings, delay, packets, cut, number, told, shown, heard}
-use Rattle.rules.specs.Sessions.{counted, cutOff, Done, answered, call, answers, after}
+use Rattle.rules.specs.Sessions.{counted, cutOff, Done, kept, answered, call, answers, after}
 use Rattle.rules.specs.Listed.{EachListed}
 use Rattle.rules.specs.Moves.{turns, turnsIn, StoppedSeen}
-use Rattle.rules.specs.Alike.{alike, restrained, Begins, cleared, compared}
+use Rattle.rules.specs.Alike.{alike, restrained, Begins, begun, lost, cleared, compared}
 use Rattle.rules.specs.declared.State.the-variants.{Idle}
+use Rattle.rules.specs.declared.Event.the-variants.{Lost}
 use Rattle.rules.specs.declared.Told.{Told as ToldBy}
 use Rattle.rules.proofs.LentAreas.{front-read}
 use Rattle.rules.proofs.SavedStaysRight.{always-legal}
 use Rattle.rules.proofs.Never12.{none-answers-12}
+use Rattle.rules.proofs.View.{begins-view}
 use Rattle.rules.proofs.EveryAnswer.{all-answers}
 use Rattle.rules.proofs.Seen.{idle-after, packet-unmoved}
 use Rattle.rules.proofs.StoppedSeen.{packet-stopped}
@@ -34,7 +36,7 @@ use Rattle.bridge_step.specs.declared.Call.the-variants as Call
 use Rattle.bridge_step.specs.declared.Answer.{Answer}
 use Rattle.bridge_step.specs.declared.Answer.the-variants as Answer
 use Rattle.bridge_step.specs.Steps.{callBy, answerIn, areaAfter, roomAfter, Exit, exitOf, Steps}
-use Rattle.bridge_step.specs.Hosts.{Asked, callOf, askedOf, readBy, Runs, ended, goes, Legal, Indistinct}
+use Rattle.bridge_step.specs.Hosts.{Asked, callOf, askedOf, readBy, Runs, ended, goes, Defined, Legal, Indistinct}
 
 -- ---- One step
 
@@ -84,10 +86,6 @@ step-unique book saved k p q =
 
 -- ---- Every host gets, step by step, the definitions' answers and areas
 
-pub record Defined (book saved : List ℕ) (calls : List Sessions.Call) (said : List Sessions.Answer) (last : List ℕ) : Type 0 where
-  pub told : said ≡ answers book saved calls
-  pub left : last ≡ after book saved calls
-
 pub defined : (book saved : List ℕ) (asks : List Asked) (said : List Sessions.Answer) (last : List ℕ)
   → Runs book saved asks said last → Defined book saved (map callOf asks) said last
 unfolding answers after
@@ -102,6 +100,33 @@ defined book saved _ _ _ (goes _ k a next area′ room′ more said last step re
         ∙ ap (λ (s : List ℕ). call book saved (callOf k) .answer ∷ answers book s (map callOf more)) there;
       left = d .left ∙ ap (λ (s : List ℕ). after book s (map callOf more)) there
     }
+
+-- ---- Where a host begins: a step that begins anew, or that takes the loss of the link, and is answered with 0
+
+numberBy : Answer → ℕ
+numberBy (Answer.Number n) = n
+numberBy (Answer.Told t) = 0
+numberBy (Answer.Shown n size) = 0
+numberBy (Answer.Heard h) = 0
+numberBy (Answer.Counted n) = 0
+numberBy (Answer.CutOff piece) = 0
+
+keptIn : Exit → Kept
+keptIn x = record { number = numberBy (x .answer); saved = x .saved }
+
+pub fresh-begins : (book past input area room s area′ room′ : List ℕ)
+  → Steps book past Call.Fresh input area room (Answer.Number 0) s area′ room′ → Begins book s
+unfolding exitOf callBy call kept answerIn keptIn numberBy
+fresh-begins book past input area room s area′ room′ e = begun past (sym (ap keptIn e))
+
+pub lost-begins : (book past input area room s area′ room′ : List ℕ)
+  → Steps book past (Call.Event Lost) input area room (Answer.Number 0) s area′ room′ → Begins book s
+unfolding exitOf callBy call kept answerIn keptIn numberBy
+lost-begins book past input area room s area′ room′ e = lost past (sym (ap keptIn e))
+
+-- a right area is left
+pub begins-right : (book s : List ℕ) → bookNumber book ≡ 0 → Begins book s → savedRight (bookOf book) s ≡ true
+begins-right book s ok begins = begins-view book s ok begins .right
 
 -- ---- Demand 1 of what runs: every answer of every host is a reply, silence, or a number of the list
 

@@ -62,6 +62,11 @@ pub data Runs (book : List ℕ) : List ℕ → List Asked → List Sessions.Answ
 
 -- ---- The words of the theorems about hosts
 
+-- the answers and the saved area of the definitions' sequence
+pub record Defined (book saved : List ℕ) (calls : List Sessions.Call) (said : List Sessions.Answer) (last : List ℕ) : Type 0 where
+  pub told : said ≡ Sessions.answers book saved calls
+  pub left : last ≡ Sessions.after book saved calls
+
 -- a right saved area is left, and 12 was never told
 pub record Legal (book : List ℕ) (said : List Sessions.Answer) (last : List ℕ) : Type 0 where
   pub right : savedRight (bookOf book) last ≡ true

@@ -8,9 +8,10 @@ use mathlib.Core.Path.{_≡_, refl, sym}
 use mathlib.Core.List.{List, [], _∷_, _++_}
 use mathlib.Core.Bool.{Bool, true, false, not, _&&_, _||_}
 use mathlib.Core.Option.{Option, none, some}
-use lib.ListN.{length, take, drop, getD}
+use lib.ListN.{length, take, drop, getD, replicate}
 use lib.Dec.{leb, ltb, eqb, lit≤}
 use borrow.Author.Tests.{leb-true, eqb-true, not-false}
+use Rattle.rules.specs.Computed.{computed}
 use Rattle.rules.specs.Octets.{if_then_else_, between, sameOctets, member, isEmpty, front}
 use Rattle.rules.specs.Elements.{items}
 use Rattle.rules.specs.Book.{Entry, Book, kindRight, mediaType, listRight, entriesNumber, bookNumber, bookOf, Found}
@@ -25,8 +26,9 @@ use Rattle.rules.specs.Host.{payloadOf, turnOf, takes, Answered, packetC
 use Rattle.rules.specs.Host.{settingsCall, Heard, heardAt, delayCall, packetsCall, Cut, cutRefusal, cutCall}
 use Rattle.rules.specs.Sessions.{Call, check, fresh, packet, event, settings, delay, packets, cut, number, told, shown}
 use Rattle.rules.specs.Sessions.{heard, cutOff, kept, answered, asked, call, answers}
-use Rattle.rules.specs.Listed.{bookNumbers, refusals, refusedWith, Listed, refused, checked, begun, silent, replied}
-use Rattle.rules.specs.Listed.{happened, shows, hears, counts, cuts, EachListed, none as nothing, more}
+use Rattle.rules.specs.Table.{traceBook}
+use Rattle.rules.specs.Listed.{numberIn, bookNumbers, refusals, refusedWith, Listed, refused, checked, begun, silent}
+use Rattle.rules.specs.Listed.{replied, happened, shows, hears, counts, cuts, EachListed, none as nothing, more}
 use Rattle.rules.specs.declared.OurSeid.{OurSeid}
 use Rattle.rules.specs.declared.Event.{Event}
 use Rattle.rules.specs.declared.Event.the-variants.{Up, Down, Lost}
@@ -320,3 +322,35 @@ unfolding answers
 all-answers b saved [] = nothing saved
 all-answers b saved (c ∷ calls) =
     more saved c (call b saved c) calls _ (every-answer b saved c) (all-answers b (call b saved c .saved) calls)
+
+-- ---- Each number of the list is given
+
+abbrev bookHead : List ℕ
+bookHead = 0x48 ∷ 0x4C ∷ 0x42 ∷ 0x00 ∷ 0x01 ∷ []
+
+abbrev freshArea : List ℕ
+freshArea = freshCall traceBook (replicate (areaFor 2) 0xDD) .saved
+
+abbrev discover : List ℕ
+discover = 0x10 ∷ 0x01 ∷ []
+
+abbrev numberOf : List ℕ → List ℕ → Call → ℕ
+numberOf book saved c = numberIn (call book saved c .answer)
+
+pub numbers-given :
+  numberOf [] [] check
+    ∷ numberOf (0 ∷ 0 ∷ 0 ∷ 0 ∷ 1 ∷ 1 ∷ []) [] check
+    ∷ numberOf (0x48 ∷ 0x4C ∷ 0x42 ∷ 0 ∷ 2 ∷ 1 ∷ []) [] check
+    ∷ numberOf (bookHead ++ (0 ∷ [])) [] check
+    ∷ numberOf (bookHead ++ (1 ∷ 0 ∷ 0 ∷ 0 ∷ [])) [] check
+    ∷ numberOf (bookHead ++ (1 ∷ 1 ∷ 1 ∷ 0 ∷ [])) [] check
+    ∷ numberOf (bookHead ++ (1 ∷ 1 ∷ 0 ∷ 65 ∷ [])) [] check
+    ∷ numberOf traceBook freshArea (packet 47 discover (replicate 64 0))
+    ∷ numberOf traceBook freshArea (packet 48 discover (replicate 63 0))
+    ∷ numberOf traceBook freshArea (event Event.Up)
+    ∷ numberOf traceBook freshArea (cut 48 (record { label = 1; type = 2; signal = 1; payload = [] }) 1 (replicate 48 0))
+    ∷ numberOf traceBook [] (packet 48 discover (replicate 64 0))
+    ∷ []
+  ≡ 1 ∷ 2 ∷ 3 ∷ 4 ∷ 5 ∷ 6 ∷ 7 ∷ 8 ∷ 9 ∷ 10 ∷ 11 ∷ 12 ∷ []
+unfolding computed traceBook numberIn
+numbers-given = refl
