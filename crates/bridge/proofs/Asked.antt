@@ -12,19 +12,20 @@ use Rattle.rules.specs.Walks.{placeIn, foundBy}
 use Rattle.rules.specs.Endpoints.{Endpoint, endAt}
 use Rattle.rules.specs.Saved.{recordRoom, configRoom, recordsOf, endsIn, connectionIn}
 use Rattle.rules.specs.Host.{refusalOf, settingsOf, Shown, shownAt, settingsCall, heard, heardAt, delayCall}
+use Rattle.rules.specs.Host.{standing, nowhere, standingAt, statusCall}
 use Rattle.rules.specs.Answers.{heardBy}
 use Rattle.rules.specs.declared.OurSeid.{OurSeid}
 use Rattle.rules.specs.declared.Delay.the-variants.{Unreported}
 use Rattle.rules.specs.declared.Heard.{Heard as HeardBy}
+use Rattle.rules.specs.declared.Standing.{Standing}
 use Rattle.rules.specs.declared.Place.the-variants.{Unknown, Known}
 use Rattle.octets.specs.Patch.{part}
 use Rattle.book.proofs.Found.{entryBy, found-as, Placed, placed}
 use Rattle.saved.specs.Records.{loaded, endpointOf, recordAt, configSizeAt, configAt}
 use Rattle.saved.specs.declared.records.Endpoint.{Endpoint as Head}
 use Rattle.saved.proofs.OneStore.{loaded-one, length-told}
-use Rattle.commands_reply.proofs.Serving.{misses}
 use Rattle.saved_events.proofs.Awaits.{has-room}
-use Rattle.bridge.specs.Calls.{Hears}
+use Rattle.bridge.specs.Calls.{Hears, standingOf}
 use Rattle.bridge.proofs.Refusing.{Calm}
 
 module _ (book saved : List ℕ) (s : OurSeid) where
@@ -35,6 +36,10 @@ module _ (book saved : List ℕ) (s : OurSeid) where
     unfolding settingsCall
     refused-shown = rw (← e, ne-eqb n 0 h)
 
+    pub refused-stands : (r : Standing) → r ≡ nowhere n → r ≡ statusCall book saved s
+    unfolding statusCall
+    refused-stands r said = said ∙ rw (← e, ne-eqb n 0 h)
+
     pub refused-heard : (r : HeardBy) → heardBy r ≡ heard n Unreported → Hears book saved s r
     unfolding delayCall
     refused-heard r said = said ∙ rw (← e, ne-eqb n 0 h)
@@ -43,12 +48,16 @@ module _ (book saved : List ℕ) (s : OurSeid) where
 
   module _ (calm : Calm book saved) where
     pub missing-shown : placeIn s book ≡ Unknown → settingsCall book saved s ≡ record { number = 10; part = [] }
-    unfolding settingsCall shownAt
-    missing-shown e = rw (calm .allowed, misses s book e)
+    unfolding settingsCall shownAt foundBy
+    missing-shown e = rw (calm .allowed, found-as s book Unknown e)
+
+    pub missing-stands : (r : Standing) → placeIn s book ≡ Unknown → r ≡ nowhere 10 → r ≡ statusCall book saved s
+    unfolding statusCall standingAt foundBy
+    missing-stands r e said = said ∙ rw (calm .allowed, found-as s book Unknown e)
 
     pub missing-heard : (r : HeardBy) → placeIn s book ≡ Unknown → heardBy r ≡ heard 10 Unreported → Hears book saved s r
-    unfolding delayCall heardAt
-    missing-heard r e said = said ∙ rw (calm .allowed, misses s book e)
+    unfolding delayCall heardAt foundBy
+    missing-heard r e said = said ∙ rw (calm .allowed, found-as s book Unknown e)
 
     pub there-shown : (i kind from size : ℕ) → placeIn s book ≡ Known i kind from size
       → settingsCall book saved s
@@ -64,6 +73,11 @@ module _ (book saved : List ℕ) (s : OurSeid) where
       → delayCall book saved s ≡ heard 0 (endAt (endsIn (length (bookOf book)) (recordsOf saved)) i .delay)
     unfolding delayCall heardAt foundBy connectionIn
     there-heard i kind from size e = rw (calm .allowed, found-as s book (Known i kind from size) e)
+
+    there-stands : (i kind from size : ℕ) → placeIn s book ≡ Known i kind from size
+      → statusCall book saved s ≡ standing 0 (endAt (endsIn (length (bookOf book)) (recordsOf saved)) i)
+    unfolding statusCall standingAt foundBy connectionIn
+    there-stands i kind from size e = rw (calm .allowed, found-as s book (Known i kind from size) e)
 
     -- ---- The endpoint that the SEID names
 
@@ -98,6 +112,12 @@ module _ (book saved : List ℕ) (s : OurSeid) where
           said
           ∙ ap (λ (x : Head). heard 0 (x .delay)) got
           ∙ sym (there-heard i kind from size there ∙ ap (λ (e : Endpoint). heard 0 (e .delay)) shows)
+
+      pub known-stands : (h : Head) (r : Standing) → h ≡ loaded (recordAt i records) → r ≡ standingOf h
+        → r ≡ statusCall book saved s
+      unfolding standing endpointOf
+      known-stands h r got said =
+          said ∙ ap standingOf got ∙ sym (there-stands i kind from size there ∙ ap (standing 0) shows)
 
       shown-part : settingsCall book saved s .part
         ≡ if isEmpty (configAt i records) then part from size book else configAt i records

@@ -3,7 +3,7 @@
 use Prim.Native.Nat.{ℕ}
 use mathlib.Core.Path.{_≡_, sym, ap, _∙_}
 use mathlib.Core.List.{List}
-use Rattle.rules.specs.Host.{Kept, Answered, Told, Heard, Cut, checkCall, settingsCall, packetsCall}
+use Rattle.rules.specs.Host.{Kept, Answered, Told, Heard, Cut, checkCall, settingsCall, statusCall, packetsCall}
 use Rattle.rules.specs.Answers.{toldBy}
 use Rattle.rules.specs.Wires.{cutBy}
 use Rattle.rules.specs.declared.OurSeid.{OurSeid}
@@ -11,6 +11,7 @@ use Rattle.rules.specs.declared.Event.{Event}
 use Rattle.rules.specs.declared.Told.{Told as ToldBy}
 use Rattle.rules.specs.declared.Heard.{Heard as HeardBy}
 use Rattle.rules.specs.declared.Piece.{Piece}
+use Rattle.rules.specs.declared.Standing.{Standing}
 use Rattle.bridge.specs.Calls.{Freshens, Takes, Happens, Hears, Cuts}
 
 pub check-unique : (book : List ℕ) {n m : ℕ} → n ≡ checkCall book → m ≡ checkCall book → n ≡ m
@@ -49,6 +50,10 @@ settings-told-unique book saved s p q = p ∙ sym q
 pub delay-unique : (book saved : List ℕ) (s : OurSeid) {h k : HeardBy} → Hears book saved s h → Hears book saved s k → h ≡ k
 delay-unique book saved s p q =
     ap (λ (x : Heard). record { number = x .number; reported = x .reported; tenths = x .tenths }) (p ∙ sym q)
+
+pub status-unique : (book saved : List ℕ) (s : OurSeid) {t u : Standing} → t ≡ statusCall book saved s
+  → u ≡ statusCall book saved s → t ≡ u
+status-unique book saved s p q = p ∙ sym q
 
 pub packets-unique : (size length : ℕ) {n m : ℕ} → n ≡ packetsCall size length → m ≡ packetsCall size length → n ≡ m
 packets-unique size length p q = p ∙ sym q

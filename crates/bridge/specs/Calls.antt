@@ -11,6 +11,8 @@ use Rattle.rules.specs.declared.Event.{Event}
 use Rattle.rules.specs.declared.Told.{Told as ToldBy}
 use Rattle.rules.specs.declared.Heard.{Heard as HeardBy}
 use Rattle.rules.specs.declared.Piece.{Piece}
+use Rattle.rules.specs.declared.Standing.{Standing}
+use Rattle.saved.specs.declared.records.Endpoint.{Endpoint as Head}
 
 abbrev pub Freshens : List ℕ → List ℕ → ℕ → List ℕ → Type 0
 Freshens book saved number saved′ = _≡_ {A = Kept} (record { number = number; saved = saved′ }) (freshCall book saved)
@@ -29,3 +31,7 @@ abbrev pub Cuts : ℕ → ℕ → ℕ → ℕ → List ℕ → ℕ → List ℕ 
 Cuts size label kind signal payload index area piece area′ =
     cutBy piece area′
     ≡ cutCall size (record { label = label; type = kind; signal = signal; payload = payload }) index area
+
+-- how an endpoint stands, by the head of its record
+abbrev pub standingOf : Head → Standing
+standingOf h = record { number = 0; state = h .state; channel = h .channel; far = h .far }

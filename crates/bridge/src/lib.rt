@@ -3,6 +3,7 @@
 // short, 10 an event or a question that does not apply, 11 a message that is not to be cut, 12 the saved connection, 0 done.
 mod refusals;
 mod delays;
+mod standings;
 
 use rules::Delay;
 use rules::Event;
@@ -10,6 +11,7 @@ use rules::Heard;
 use rules::OurSeid;
 use rules::Piece;
 use rules::Place;
+use rules::Standing;
 use rules::Told;
 use rules::layout::COUNT;
 use rules::layout::RECORD;
@@ -17,7 +19,7 @@ use rules::layout::RECORDS;
 use saved::parts::records_of;
 
 ghost use mathlib.Core.Path.{_≡_};
-ghost use Rattle.rules.specs.Host.{checkCall, settingsCall, packetsCall};
+ghost use Rattle.rules.specs.Host.{checkCall, settingsCall, statusCall, packetsCall};
 ghost use Rattle.bridge.specs.Calls.{Freshens, Takes, Happens, Hears, Cuts};
 
 // Whether a book is right: 0, or its number.
@@ -143,6 +145,29 @@ pub fn delay(book: &[u8], saved: &[u8], seid: OurSeid) -> Heard
             let e = saved::records::get(records_of(saved), index);
             let delay = e.delay;
             delays::heard(0, delay)
+        }
+    }
+}
+
+// How an endpoint stands: its state, its channel and the far SEID.
+pub fn status(book: &[u8], saved: &[u8], seid: OurSeid) -> Standing
+    ensures { λ r. ⌜ r ≡ statusCall (now (book .entry)) (now (saved .entry)) seid ⌝ }
+{
+    let number = refusals::refusal(book, saved);
+    if number != 0 {
+        return standings::nowhere(number);
+    }
+    let place = book::places::place(book, seid);
+    match place {
+        Place::Unknown => standings::nowhere(10),
+        Place::Known {
+            index,
+            kind: _,
+            from: _,
+            size: _,
+        } => {
+            let e = saved::records::get(records_of(saved), index);
+            standings::standing(e)
         }
     }
 }

@@ -48,6 +48,7 @@ answer-read (told t reply) area room = refl
 answer-read (shown s) area room =
     ap (λ (l : List ℕ). shown (record { number = s .number; part = l })) (front-read (s .part) room)
 answer-read (heard h) area room = refl
+answer-read (stands t) area room = refl
 answer-read (counted n) area room = refl
 answer-read (cutOff c) area room = refl
 
@@ -69,6 +70,7 @@ any-call room (packet size p reply) = refl
 any-call room (event e) = refl
 any-call room (settings s) = refl
 any-call room (delay s) = refl
+any-call room (status s) = refl
 any-call room (packets size n) = refl
 any-call room (cut size m k area) = refl
 
@@ -160,6 +162,7 @@ toldIn (number n) = nothingSaid 0
 toldIn (told t reply) = t
 toldIn (shown s) = nothingSaid 0
 toldIn (heard h) = nothingSaid 0
+toldIn (stands t) = nothingSaid 0
 toldIn (counted n) = nothingSaid 0
 toldIn (cutOff c) = nothingSaid 0
 
@@ -235,6 +238,7 @@ any-step book saved room (packet size p reply) = refl
 any-step book saved room (event e) = refl
 any-step book saved room (settings s) = refl
 any-step book saved room (delay s) = refl
+any-step book saved room (status s) = refl
 any-step book saved room (packets size n) = refl
 any-step book saved room (cut size m k area) = refl
 

@@ -4,7 +4,7 @@ use mathlib.Core.Path.{_≡_, sym, ap, ap₂, _∙_}
 use mathlib.Core.List.{List}
 use lib.ListN.{length}
 use Rattle.rules.specs.Octets.{front}
-use Rattle.rules.specs.Host.{checkCall, Kept, Answered, settingsCall, Heard, packetsCall, Cut}
+use Rattle.rules.specs.Host.{checkCall, Kept, Answered, settingsCall, Heard, statusCall, packetsCall, Cut}
 use Rattle.rules.specs.Wires.{cutBy}
 use Rattle.rules.specs.Sessions.{kept, answered, asked, call}
 use Rattle.rules.specs.declared.OurSeid.{OurSeid}
@@ -12,12 +12,13 @@ use Rattle.rules.specs.declared.Event.{Event}
 use Rattle.rules.specs.declared.Told.{Told as ToldBy}
 use Rattle.rules.specs.declared.Heard.{Heard as HeardBy}
 use Rattle.rules.specs.declared.Piece.{Piece}
+use Rattle.rules.specs.declared.Standing.{Standing}
 use Rattle.octets.specs.Patch.{patch}
 use Rattle.octets.proofs.Patches.{front-patch}
 use Rattle.bridge.specs.Calls.{Freshens, Takes, Happens, Hears, Cuts}
 use Rattle.bridge_step.specs.declared.Call.{Call}
 use Rattle.bridge_step.specs.declared.Call.the-variants as Call
-use Rattle.bridge_step.specs.declared.Answer.the-variants.{Number, Told, Shown, Heard as HeardIt, Counted, CutOff}
+use Rattle.bridge_step.specs.declared.Answer.the-variants.{Number, Told, Shown, Heard as HeardIt, Stands, Counted, CutOff}
 use Rattle.bridge_step.specs.Steps.{callBy, answerIn, areaAfter, roomAfter, exitOf, Steps, Copied, copiedOf}
 
 module _ (book saved : List ℕ) (k : Call) (input area room : List ℕ) where
@@ -67,6 +68,11 @@ module _ (book saved : List ℕ) (k : Call) (input area room : List ℕ) where
       rw is
         (ap₂ (λ (y : ℕ) (x : Copied). record { answer = Shown y (x .length); saved = saved; area = area; room = x .room }) e
            copied)
+
+  pub stands : (s : OurSeid) → k ≡ Call.Status s → (t : Standing) → t ≡ statusCall book saved s
+    → Steps book saved k input area room (Stands t) saved area room
+  unfolding exitOf callBy call asked answerIn areaAfter roomAfter
+  stands s is t e = rw is (ap (λ (x : Standing). record { answer = Stands x; saved = saved; area = area; room = room }) e)
 
   pub hears : (s : OurSeid) → k ≡ Call.Delay s → (h : HeardBy) → Hears book saved s h
     → Steps book saved k input area room (HeardIt h) saved area room

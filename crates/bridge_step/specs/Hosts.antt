@@ -14,11 +14,11 @@ use Rattle.rules.specs.Wires.{cutBy}
 use Rattle.rules.specs.Answers.{toldBy, heardBy}
 use Rattle.rules.specs.Sessions
 use Rattle.rules.specs.Sessions.{check, fresh, packet, event, settings, delay, packets, cut, number, told, shown, heard}
-use Rattle.rules.specs.Sessions.{counted, cutOff}
+use Rattle.rules.specs.Sessions.{status, stands, counted, cutOff}
 use Rattle.bridge_step.specs.declared.Call.{Call}
-use Rattle.bridge_step.specs.declared.Call.the-variants.{Check, Fresh, Packet, Event, Settings, Delay, Packets, Cut}
+use Rattle.bridge_step.specs.declared.Call.the-variants.{Check, Fresh, Packet, Event, Settings, Delay, Status, Packets, Cut}
 use Rattle.bridge_step.specs.declared.Answer.{Answer}
-use Rattle.bridge_step.specs.declared.Answer.the-variants.{Number, Told, Shown, Heard, Counted, CutOff}
+use Rattle.bridge_step.specs.declared.Answer.the-variants.{Number, Told, Shown, Heard, Stands, Counted, CutOff}
 use Rattle.bridge_step.specs.Steps.{callBy, Steps}
 
 -- what a host hands to a step: a call, the octets that it reads, the area that it lends, and the room for settings
@@ -39,6 +39,7 @@ askedOf room (packet size p reply) = record { call = Packet size; input = p; are
 askedOf room (event e) = record { call = Event e; input = []; area = []; room = room }
 askedOf room (settings s) = record { call = Settings s; input = []; area = []; room = room }
 askedOf room (delay s) = record { call = Delay s; input = []; area = []; room = room }
+askedOf room (status s) = record { call = Status s; input = []; area = []; room = room }
 askedOf room (packets size n) = record { call = Packets size n; input = []; area = []; room = room }
 askedOf room (cut size m k area) =
     record { call = Cut size (m .label) (m .type) (m .signal) k; input = m .payload; area = area; room = room }
@@ -49,6 +50,7 @@ readBy (Number n) area room = number n
 readBy (Told t) area room = told (toldBy t) area
 readBy (Shown n size) area room = shown (record { number = n; part = take size room })
 readBy (Heard h) area room = heard (heardBy h)
+readBy (Stands t) area room = stands t
 readBy (Counted n) area room = counted n
 readBy (CutOff piece) area room = cutOff (cutBy piece area)
 

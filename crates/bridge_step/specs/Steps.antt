@@ -8,12 +8,12 @@ use Rattle.rules.specs.Octets.{front}
 use Rattle.rules.specs.Host.{settingsCall}
 use Rattle.rules.specs.Sessions
 use Rattle.rules.specs.Sessions.{check, fresh, packet, event, settings, delay, packets, cut, number, told, shown, heard}
-use Rattle.rules.specs.Sessions.{counted, cutOff}
+use Rattle.rules.specs.Sessions.{status, stands, counted, cutOff}
 use Rattle.rules.specs.declared.OurSeid.{OurSeid}
 use Rattle.bridge_step.specs.declared.Call.{Call}
-use Rattle.bridge_step.specs.declared.Call.the-variants.{Check, Fresh, Packet, Event, Settings, Delay, Packets, Cut}
+use Rattle.bridge_step.specs.declared.Call.the-variants.{Check, Fresh, Packet, Event, Settings, Delay, Status, Packets, Cut}
 use Rattle.bridge_step.specs.declared.Answer.{Answer}
-use Rattle.bridge_step.specs.declared.Answer.the-variants.{Number, Told, Shown, Heard, Counted, CutOff}
+use Rattle.bridge_step.specs.declared.Answer.the-variants.{Number, Told, Shown, Heard, Stands, Counted, CutOff}
 
 -- ---- What the code takes and gives, in the words of the definitions
 
@@ -25,6 +25,7 @@ callBy (Packet size) input area = packet size input area
 callBy (Event e) input area = event e
 callBy (Settings s) input area = settings s
 callBy (Delay s) input area = delay s
+callBy (Status s) input area = status s
 callBy (Packets size length) input area = packets size length
 callBy (Cut size label kind signal index) input area =
     cut size (record { label = label; type = kind; signal = signal; payload = input }) index area
@@ -36,6 +37,7 @@ answerIn (told t reply) =
     Told (record { number = t .number; label = t .label; kind = t .type; signal = t .signal; length = t .length })
 answerIn (shown s) = Shown (s .number) (length (s .part))
 answerIn (heard h) = Heard (record { number = h .number; reported = h .reported; tenths = h .tenths })
+answerIn (stands t) = Stands t
 answerIn (counted n) = Counted n
 answerIn (cutOff c) = CutOff (record { number = c .number; length = c .length })
 
@@ -47,6 +49,7 @@ areaAfter (number n) area = area
 areaAfter (told t reply) area = reply
 areaAfter (shown s) area = area
 areaAfter (heard h) area = area
+areaAfter (stands t) area = area
 areaAfter (counted n) area = area
 areaAfter (cutOff c) area = c .area
 
@@ -56,6 +59,7 @@ roomAfter (number n) room = room
 roomAfter (told t reply) room = room
 roomAfter (shown s) room = front (s .part) room
 roomAfter (heard h) room = room
+roomAfter (stands t) room = room
 roomAfter (counted n) room = room
 roomAfter (cutOff c) room = room
 

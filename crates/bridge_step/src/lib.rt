@@ -4,6 +4,7 @@ use rules::Event;
 use rules::Heard;
 use rules::OurSeid;
 use rules::Piece;
+use rules::Standing;
 use rules::Told;
 
 ghost use mathlib.Core.Path.{_≡_};
@@ -18,6 +19,7 @@ pub enum Call {
     Event(Event),
     Settings(OurSeid),
     Delay(OurSeid),
+    Status(OurSeid),
     Packets { size: usize, length: usize },
     Cut { size: usize, label: u8, kind: u8, signal: u8, index: usize },
 }
@@ -29,6 +31,7 @@ pub enum Answer {
     Told(Told),
     Shown { number: u8, length: usize },
     Heard(Heard),
+    Stands(Standing),
     Counted(usize),
     CutOff(Piece),
 }
@@ -59,6 +62,7 @@ pub fn step(book: &[u8], saved: &mut [u8], call: Call, input: &[u8], area: &mut 
             Answer::Shown { number, length }
         }
         Call::Delay(seid) => Answer::Heard(bridge::delay(book, saved, seid)),
+        Call::Status(seid) => Answer::Stands(bridge::status(book, saved, seid)),
         Call::Packets { size, length } => Answer::Counted(bridge::packets(size, length)),
         Call::Cut {
             size,

@@ -23,15 +23,17 @@ use Rattle.rules.specs.Saved.{areaFor, connectionIn, savedRight}
 use Rattle.rules.specs.Commands.{Reply, silence, generalReject, accept, reject, answer}
 use Rattle.rules.specs.Host.{checkCall, numberOr, savedNumber, refusalOf, packetRefusal, Kept, freshCall, said, toldOf}
 use Rattle.rules.specs.Host.{payloadOf, turnOf, takes, Answered, packetCall, eventCall, settingsOf, Shown, shownAt}
-use Rattle.rules.specs.Host.{settingsCall, Heard, heardAt, delayCall, packetsCall, Cut, cutRefusal, cutCall}
+use Rattle.rules.specs.Host.{settingsCall, Heard, heardAt, delayCall, packetsCall, Cut, cutRefusal, cutCall, standingAt}
+use Rattle.rules.specs.Host.{statusCall, standing}
 use Rattle.rules.specs.Sessions.{Call, check, fresh, packet, event, settings, delay, packets, cut, number, told, shown}
-use Rattle.rules.specs.Sessions.{heard, cutOff, kept, answered, asked, call, answers}
+use Rattle.rules.specs.Sessions.{heard, cutOff, kept, answered, asked, call, answers, status, stands}
 use Rattle.rules.specs.Table.{traceBook}
 use Rattle.rules.specs.Listed.{numberIn, bookNumbers, refusals, refusedWith, Listed, refused, checked, begun, silent}
-use Rattle.rules.specs.Listed.{replied, happened, shows, hears, counts, cuts, EachListed, none as nothing, more}
+use Rattle.rules.specs.Listed.{replied, happened, shows, hears, counts, cuts, EachListed, none as nothing, more, tells}
 use Rattle.rules.specs.declared.OurSeid.{OurSeid}
 use Rattle.rules.specs.declared.Event.{Event}
 use Rattle.rules.specs.declared.Event.the-variants.{Up, Down, Lost}
+use Rattle.rules.specs.declared.Standing.{Standing}
 use Rattle.rules.proofs.Tests.{Told?, passed, failed, told as whether, and-l, and-r, between-least, clash}
 use Rattle.rules.proofs.Unrefused.{Unrefused, none-refused, packet-unrefused}
 use Rattle.rules.proofs.SettingsShown.{settings-there, settings-short}
@@ -259,6 +261,19 @@ module _ (b saved : List ℕ) (s : OurSeid) where
         (λ t. delay-found (find s (bookOf b)) _)
         (λ f. refused (delay s) n (among-refused (bookNumbers ++ (12 ∷ 10 ∷ [])) n (asked-among b saved) f))
 
+  status-found : (f : Found) (ends : Ends) → Listed saved (status s) (record { answer = stands (standingAt f ends); saved = saved })
+  unfolding standingAt refusals refusedWith member
+  status-found unknown ends = refused (status s) 10 refl
+  status-found (known i n) ends = tells s (endAt ends i)
+
+  status-listed : Listed saved (status s) (asked saved (stands (statusCall b saved s)))
+  unfolding statusCall asked refusals refusedWith
+  status-listed =
+      let n = refusalOf b saved in
+      if-arms (λ (x : Standing). Listed saved (status s) (record { answer = stands x; saved = saved })) (eqb n 0) _ _
+        (λ t. status-found (find s (bookOf b)) _)
+        (λ f. refused (status s) n (among-refused (bookNumbers ++ (12 ∷ 10 ∷ [])) n (asked-among b saved) f))
+
 -- ---- packets and cut
 
 -- a message has at most 11 packets
@@ -314,6 +329,7 @@ every-answer b saved (packet size p reply) = packet-listed b size saved p reply
 every-answer b saved (event e) = event-listed b saved e
 every-answer b saved (settings s) = settings-listed b saved s
 every-answer b saved (delay s) = delay-listed b saved s
+every-answer b saved (status s) = status-listed b saved s
 every-answer b saved (packets size n) = counts size n (packetsCall size n) (packets-few size n)
 every-answer b saved (cut size m k area) = cut-listed saved size m k area
 

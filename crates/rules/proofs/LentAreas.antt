@@ -18,7 +18,7 @@ use Rattle.rules.specs.Commands.{Reply, silence, generalReject, accept, 
 use Rattle.rules.specs.Host.{nothingSaid, said, toldOf, payloadOf, Turn, turnOf, takes, packetRefusal, Answered}
 use Rattle.rules.specs.Host.{packetCall, cutRefusal, cutCall, Cut}
 use Rattle.rules.specs.Sessions.{Call, check, fresh, packet, event, settings, delay, packets, cut, told, cutOff, answered}
-use Rattle.rules.specs.Sessions.{asked, call, answers, after}
+use Rattle.rules.specs.Sessions.{asked, call, answers, after, status}
 use Rattle.rules.specs.Alike.{restrained, afterEvent, cleared, compared}
 
 -- ---- What is written is read at the front
@@ -133,6 +133,7 @@ answer-cleared b saved (packet size p reply) = packet-told-alike b size saved p 
 answer-cleared b saved (event e) = refl
 answer-cleared b saved (settings s) = refl
 answer-cleared b saved (delay s) = refl
+answer-cleared b saved (status s) = refl
 answer-cleared b saved (packets size n) = refl
 answer-cleared b saved (cut size m k area) = cut-alike size m k area _ (zeros-long area)
 
@@ -144,6 +145,7 @@ saved-cleared b saved (packet size p reply) = packet-saved-alike b size saved p 
 saved-cleared b saved (event e) = refl
 saved-cleared b saved (settings s) = refl
 saved-cleared b saved (delay s) = refl
+saved-cleared b saved (status s) = refl
 saved-cleared b saved (packets size n) = refl
 saved-cleared b saved (cut size m k area) = refl
 
@@ -174,5 +176,6 @@ restrained-cleared g (packet size p reply ∷ calls) =
 restrained-cleared g (event e ∷ calls) = restrained-cleared (afterEvent g e) calls
 restrained-cleared g (settings s ∷ calls) = restrained-cleared g calls
 restrained-cleared g (delay s ∷ calls) = restrained-cleared g calls
+restrained-cleared g (status s ∷ calls) = restrained-cleared g calls
 restrained-cleared g (packets size n ∷ calls) = restrained-cleared g calls
 restrained-cleared g (cut size m k area ∷ calls) = restrained-cleared g calls

@@ -20,15 +20,16 @@ use Rattle.rules.specs.Saved.{areaFor, connectionIn, savedRight}
 use Rattle.rules.specs.Host
 use Rattle.rules.specs.Host.{checkCall, numberOr, savedNumber, refusalOf, packetRefusal, Kept, freshCall, nothingSaid}
 use Rattle.rules.specs.Host.{Answered, packetCall, eventCall, Shown, shownAt, settingsCall, Heard, heardAt, delayCall}
-use Rattle.rules.specs.Host.{Cut, cutRefusal, cutCall}
+use Rattle.rules.specs.Host.{Cut, cutRefusal, cutCall, standingAt, statusCall, nowhere, standing}
 use Rattle.rules.specs.Sessions.{Call, check, fresh, packet, event, settings, delay, packets, cut, kept, answered, asked}
-use Rattle.rules.specs.Sessions.{call, answers}
+use Rattle.rules.specs.Sessions.{call, answers, status}
 use Rattle.rules.specs.Listed.{numberIn, is12}
 use Rattle.rules.specs.declared.OurSeid.{OurSeid}
 use Rattle.rules.specs.declared.Delay.{Delay}
 use Rattle.rules.specs.declared.Delay.the-variants.{Unreported, Reported}
 use Rattle.rules.specs.declared.Event.{Event}
 use Rattle.rules.specs.declared.Event.the-variants.{Up, Down, Lost}
+use Rattle.rules.specs.declared.Standing.{Standing}
 use Rattle.rules.proofs.Refused.{refused-packet}
 use Rattle.rules.proofs.Outcomes.{if-arms}
 use Rattle.rules.proofs.SavedStaysRight.{right-long, stays-legal}
@@ -107,6 +108,11 @@ unfolding Host.heard
 heard-number n Unreported h = h
 heard-number n (Reported d) h = h
 
+standing-not-12 : (f : Found) (ends : Ends) → Not12 (standingAt f ends .number)
+unfolding standingAt nowhere standing
+standing-not-12 unknown ends = below-12 10 (lit≤ tt)
+standing-not-12 (known i n) ends = below-12 0 (lit≤ tt)
+
 heard-not-12 : (f : Found) (ends : Ends) → Not12 (heardAt f ends .number)
 unfolding heardAt
 heard-not-12 unknown ends = heard-number 10 Unreported (below-12 10 (lit≤ tt))
@@ -164,6 +170,12 @@ module _ (b saved : List ℕ) (h : savedRight (bookOf b) saved ≡ true) where
       if-arms (λ (k : Heard). Not12 (k .number)) (eqb (refusalOf b saved) 0) _ _
         (λ t. heard-not-12 (find s (bookOf b)) _) (λ f. heard-number (refusalOf b saved) Unreported refusal-not-12)
 
+  status-not-12 : (s : OurSeid) → Not12 (statusCall b saved s .number)
+  unfolding statusCall nowhere standing
+  status-not-12 s =
+      if-arms (λ (k : Standing). Not12 (k .number)) (eqb (refusalOf b saved) 0) _ _
+        (λ t. standing-not-12 (find s (bookOf b)) _) (λ f. refusal-not-12)
+
 -- ---- The cutter
 
 cut-refusal-small : (size : ℕ) (m : Message) (k : ℕ) (area : List ℕ) → cutRefusal size m k area ≤ 11
@@ -194,6 +206,7 @@ never-12 b saved h (packet size p reply) = packet-not-12 b saved h size p reply
 never-12 b saved h (event e) = event-not-12 b saved h e
 never-12 b saved h (settings s) = settings-not-12 b saved h s
 never-12 b saved h (delay s) = delay-not-12 b saved h s
+never-12 b saved h (status s) = status-not-12 b saved h s
 never-12 b saved h (packets size n) = below-12 0 (lit≤ tt)
 never-12 b saved h (cut size m k area) = cut-not-12 size m k area
 

@@ -22,14 +22,15 @@ use Rattle.rules.specs.Packets.{Message, Gathering, sizeRight, gather}
 use Rattle.rules.specs.Endpoints.{Ends, Connection, freshConnection, isUp, endAt, awaiting, withEnds, Moved, downAt}
 use Rattle.rules.specs.Endpoints.{happens}
 use Rattle.rules.specs.Saved.{connectionIn}
-use Rattle.rules.specs.Host.{turnOf, takes, settingsOf, shownAt, Heard, heardAt}
+use Rattle.rules.specs.Host.{turnOf, takes, settingsOf, shownAt, Heard, heardAt, standingAt, standing}
 use Rattle.rules.specs.Sessions
 use Rattle.rules.specs.Sessions.{Call, check, fresh, packet, event, settings, delay, packets, cut, number, shown, heard}
-use Rattle.rules.specs.Sessions.{call, after}
+use Rattle.rules.specs.Sessions.{call, after, status, stands}
 use Rattle.rules.specs.Views.{packetNumber, says, goes, View, Stepped}
 use Rattle.rules.specs.Alike.{alikeEntry, alike, usesIn, afterEvent, restrained, Begins, cleared, compared, Alike}
 use Rattle.rules.specs.declared.Event.{Event}
 use Rattle.rules.specs.declared.Event.the-variants.{Down, Lost}
+use Rattle.rules.specs.declared.Standing.{Standing}
 
 -- ---- One packet
 
@@ -100,6 +101,11 @@ shown-same f f′ ends both-unknown = refl
 shown-same f f′ ends (both-known i n n′ e) =
     ap (λ (l : List ℕ). shown (record { number = 0; part = l })) (settings-same n n′ (endAt ends i .config) e)
 
+standing-same : (f f′ : Found) (ends : Ends) → FoundAlike f f′ → standingAt f ends ≡ standingAt f′ ends
+unfolding standingAt
+standing-same f f′ ends both-unknown = refl
+standing-same f f′ ends (both-known i n n′ e) = refl
+
 heard-same : (f f′ : Found) (ends : Ends) → FoundAlike f f′ → heardAt f ends ≡ heardAt f′ ends
 unfolding heardAt
 heard-same f f′ ends both-unknown = refl
@@ -155,6 +161,13 @@ module _ {book book′ : Book} (same : AlikeBooks book book′) (c : Connection)
   paced (delay s) r =
       record {
         said = ap (λ (h : Heard). compared (heard h)) (heard-same _ _ (c .ends) (find-alike s same));
+        gone = refl;
+        still = q;
+        restrains = r
+      }
+  paced (status s) r =
+      record {
+        said = ap (λ (t : Standing). compared (stands t)) (standing-same _ _ (c .ends) (find-alike s same));
         gone = refl;
         still = q;
         restrains = r

@@ -17,11 +17,12 @@ use Rattle.rules.specs.Saved.{areaFor, connectionIn, store}
 use Rattle.rules.specs.Commands.{Reply, silence, generalReject, accept, reject, answer}
 use Rattle.rules.specs.Host.{numberOr, nothingSaid, said, toldOf, payloadOf, Turn, turnOf, takes, packetRefusal, Answered}
 use Rattle.rules.specs.Host.{packetCall, Kept, freshCall, eventCall, Shown, shownAt, settingsCall, Heard, heard, heardAt}
-use Rattle.rules.specs.Host.{delayCall, refusalOf, Cut, cutRefusal, cutCall}
+use Rattle.rules.specs.Host.{delayCall, refusalOf, Cut, cutRefusal, cutCall, standingAt, statusCall, nowhere, standing}
 use Rattle.rules.specs.declared.OurSeid.{OurSeid}
 use Rattle.rules.specs.declared.Delay.{Delay}
 use Rattle.rules.specs.declared.Delay.the-variants.{Unreported, Reported}
 use Rattle.rules.specs.declared.Event.{Event}
+use Rattle.rules.specs.declared.Standing.{Standing}
 use Rattle.rules.proofs.Tests.{told}
 
 pub nothing-written : (area : List ℕ) → front [] area ≡ area
@@ -179,6 +180,25 @@ refused-delay book saved s = by (eqb (refusalOf book saved) 0)
       → let x : Heard = if b then asked else heard (refusalOf book saved) Unreported in
         (x .number ≡ 0 → ⊥) → x ≡ heard (x .number) Unreported
     by true h = none-heard (find s (bookOf book)) (connectionIn (length (bookOf book)) saved .ends) h
+    by false h = refl
+
+none-stands : (f : Found) (ends : Ends) → (standingAt f ends .number ≡ 0 → ⊥)
+  → standingAt f ends ≡ nowhere (standingAt f ends .number)
+unfolding standingAt nowhere standing
+none-stands unknown ends h = refl
+none-stands (known i n) ends h = absurd (h refl)
+
+pub refused-status : (book saved : List ℕ) (s : OurSeid) → (statusCall book saved s .number ≡ 0 → ⊥)
+  → statusCall book saved s ≡ nowhere (statusCall book saved s .number)
+unfolding statusCall nowhere standing
+refused-status book saved s = by (eqb (refusalOf book saved) 0)
+  where
+    asked : Standing
+    asked = standingAt (find s (bookOf book)) (connectionIn (length (bookOf book)) saved .ends)
+    by : (b : Bool)
+      → let x : Standing = if b then asked else nowhere (refusalOf book saved) in
+        (x .number ≡ 0 → ⊥) → x ≡ nowhere (x .number)
+    by true h = none-stands (find s (bookOf book)) (connectionIn (length (bookOf book)) saved .ends) h
     by false h = refl
 
 pub refused-cut : (size : ℕ) (m : Message) (k : ℕ) (area : List ℕ) → (cutCall size m k area .number ≡ 0 → ⊥)

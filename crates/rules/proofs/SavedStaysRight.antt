@@ -18,7 +18,7 @@ use Rattle.rules.specs.Host.{numberOr, refusalOf, packetRefusal, Kept, f
 use Rattle.rules.specs.Computed.{computed}
 use Rattle.rules.specs.Table.{traceBook}
 use Rattle.rules.specs.Sessions.{Call, check, fresh, packet, event, settings, delay, packets, cut, kept}
-use Rattle.rules.specs.Sessions.{answered, asked, call, after}
+use Rattle.rules.specs.Sessions.{answered, asked, call, after, status}
 use Rattle.rules.specs.declared.Event.{Event}
 use Rattle.rules.proofs.Tests.{and-l, and-r}
 use Rattle.rules.proofs.SavedReads.{PayloadFits, Roomy, length-store, reads-stored, count-stored, stored-octets-right}
@@ -112,6 +112,7 @@ module _ (b saved : List ℕ) (right : bookNumber b ≡ 0) (h : savedRight (book
   stays-legal (event e) = event-keeps e
   stays-legal (settings s) = h
   stays-legal (delay s) = h
+  stays-legal (status s) = h
   stays-legal (packets size n) = h
   stays-legal (cut size m k area) = h
 

@@ -13,6 +13,7 @@ use Rattle.rules.specs.Saved.{connectionIn, savedRight}
 use Rattle.rules.specs.Commands.{Reply, silence, generalReject, accept, reject, answer}
 use Rattle.rules.specs.Host.{toldOf, said, turnOf, takes, packetCall}
 use Rattle.rules.specs.Sessions.{Call, packet, Answer, number, told, shown, heard, counted, cutOff, call, answered, after}
+use Rattle.rules.specs.Sessions.{stands}
 use Rattle.rules.specs.Views.{Stepped, packetNumber, says, goes}
 use Rattle.rules.specs.Moves.{isAccept, shiftsIn}
 use Rattle.rules.specs.declared.State.the-variants.{Idle}
@@ -66,6 +67,7 @@ typeIn (number n) = 0
 typeIn (told t reply) = t .type
 typeIn (shown s) = 0
 typeIn (heard h) = 0
+typeIn (stands t) = 0
 typeIn (counted n) = 0
 typeIn (cutOff c) = 0
 

@@ -19,7 +19,7 @@ use Rattle.rules.specs.Commands.{Reply, silence, generalReject, accept, 
 use Rattle.rules.specs.Commands.{obey, answer}
 use Rattle.rules.specs.Host.{Told, toldOf, said, nothingSaid, payloadOf, turnOf, takes, packetCall, freshCall}
 use Rattle.rules.specs.Sessions.{packet, event, Answer, number, told, shown, heard, counted, cutOff, call, answered}
-use Rattle.rules.specs.Sessions.{after}
+use Rattle.rules.specs.Sessions.{after, stands}
 use Rattle.rules.specs.Views.{Stepped, packetNumber, says, goes}
 use Rattle.rules.specs.Moves.{Stopped, isAccept, shifts, shiftsTo, RejectSeen, StoppedSeen}
 use Rattle.rules.specs.Table.{traceBook, replyArea, setConfiguration1}
@@ -100,6 +100,7 @@ toldIn (number n) = nothingSaid 0
 toldIn (told t reply) = t
 toldIn (shown s) = nothingSaid 0
 toldIn (heard h) = nothingSaid 0
+toldIn (stands t) = nothingSaid 0
 toldIn (counted n) = nothingSaid 0
 toldIn (cutOff c) = nothingSaid 0
 
@@ -108,6 +109,7 @@ areaIn (number n) = []
 areaIn (told t reply) = reply
 areaIn (shown s) = []
 areaIn (heard h) = []
+areaIn (stands t) = []
 areaIn (counted n) = []
 areaIn (cutOff c) = c .area
 

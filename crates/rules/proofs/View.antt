@@ -22,9 +22,10 @@ use Rattle.rules.specs.Endpoints.{Endpoint, Ends, Connection, idle, fres
 use Rattle.rules.specs.Endpoints.{legalEnd, legalEnds, legal, awaiting, Moved, downAt, happens}
 use Rattle.rules.specs.Saved.{areaFor, connectionIn, store, savedRight}
 use Rattle.rules.specs.Host.{checkCall, numberOr, savedNumber, refusalOf, packetRefusal, Kept, freshCall, nothingSaid}
-use Rattle.rules.specs.Host.{takes, packetCall, eventCall, shownAt, settingsCall, heardAt, delayCall}
+use Rattle.rules.specs.Host.{takes, packetCall, eventCall, shownAt, settingsCall, heardAt, delayCall, statusCall}
+use Rattle.rules.specs.Host.{standingAt}
 use Rattle.rules.specs.Sessions.{Call, check, fresh, packet, event, settings, delay, packets, cut, number, told, shown}
-use Rattle.rules.specs.Sessions.{heard, Done, kept, answered, asked, call}
+use Rattle.rules.specs.Sessions.{heard, Done, kept, answered, asked, call, status, stands}
 use Rattle.rules.specs.Views.{packetNumber, says, goes, View, Stepped}
 use Rattle.rules.specs.Alike.{Begins, begun, lost}
 use Rattle.rules.specs.declared.OurSeid.{OurSeid}
@@ -123,6 +124,11 @@ module _ (b : List ℕ) (ok : bookNumber b ≡ 0) where
     delay-step x =
         step (delay x) (asked s (heard (heardAt (find x (bookOf b)) (c .ends)))) (rw (no-refusal, v .shows)) refl v
 
+    status-step : (x : OurSeid) → Stepped b s c (status x)
+    unfolding call asked says goes statusCall
+    status-step x =
+        step (status x) (asked s (stands (standingAt (find x (bookOf b)) (c .ends)))) (rw (no-refusal, v .shows)) refl v
+
     pub view-step : (k : Call) → Stepped b s c k
     unfolding call asked says goes checkCall
     view-step check = record { answer = ap number ok; next = v }
@@ -131,6 +137,7 @@ module _ (b : List ℕ) (ok : bookNumber b ≡ 0) where
     view-step (event e) = event-step e (whether (eqb (happens (bookOf b) c e .number) 0))
     view-step (settings x) = settings-step x
     view-step (delay x) = delay-step x
+    view-step (status x) = status-step x
     view-step (packets size n) = record { answer = refl; next = v }
     view-step (cut size m k area) = record { answer = refl; next = v }
 

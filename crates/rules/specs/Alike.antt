@@ -16,7 +16,7 @@ use Rattle.rules.specs.Saved.{connectionIn}
 use Rattle.rules.specs.Host.{freshCall, eventCall}
 use Rattle.rules.specs.Sessions
 use Rattle.rules.specs.Sessions.{Call, check, fresh, packet, event, settings, delay, packets, cut, Answer, number, told}
-use Rattle.rules.specs.Sessions.{shown, heard, counted, cutOff, after}
+use Rattle.rules.specs.Sessions.{shown, heard, counted, cutOff, after, stands, status}
 use Rattle.rules.specs.declared.Event.{Event}
 use Rattle.rules.specs.declared.Event.the-variants.{Up, Down, Lost}
 
@@ -63,6 +63,7 @@ restrained g (packet size p reply ∷ calls) =
 restrained g (event e ∷ calls) = restrained (afterEvent g e) calls
 restrained g (settings s ∷ calls) = restrained g calls
 restrained g (delay s ∷ calls) = restrained g calls
+restrained g (status s ∷ calls) = restrained g calls
 restrained g (packets size n ∷ calls) = restrained g calls
 restrained g (cut size m k area ∷ calls) = restrained g calls
 
@@ -86,6 +87,7 @@ cleared (packet size p reply) = packet size p (replicate (length reply) 0)
 cleared (event e) = event e
 cleared (settings s) = settings s
 cleared (delay s) = delay s
+cleared (status s) = status s
 cleared (packets size n) = packets size n
 cleared (cut size m k area) = cut size m k (replicate (length area) 0)
 
@@ -96,6 +98,7 @@ compared (number n) = number n
 compared (told t reply) = told t (take (t .length) reply)
 compared (shown s) = shown (record { number = s .number; part = written (upToCodec (items (s .part))) })
 compared (heard h) = heard h
+compared (stands t) = stands t
 compared (counted n) = counted n
 compared (cutOff c) = cutOff (record { number = c .number; length = c .length; area = take (c .length) (c .area) })
 

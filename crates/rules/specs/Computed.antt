@@ -25,7 +25,7 @@ use Rattle.rules.specs.Commands.{discovered, discover, offersAt, settled
 use Rattle.rules.specs.Commands.{shiftOne, shiftEach, shift, leaveAt, securityAt, delayAt, obey, answer}
 use Rattle.rules.specs.Host.{checkCall, numberOr, savedNumber, refusalOf, packetRefusal, freshCall, nothingSaid, said}
 use Rattle.rules.specs.Host.{toldOf, payloadOf, turnOf, takes, packetCall, eventCall, settingsOf, shownAt, settingsCall}
-use Rattle.rules.specs.Host.{heard, heardAt, delayCall, packetsCall, cutRefusal, cutCall}
+use Rattle.rules.specs.Host.{heard, heardAt, delayCall, standing, nowhere, standingAt, statusCall, packetsCall, cutRefusal, cutCall}
 use Rattle.rules.specs.Sessions.{kept as keptBy, answered, asked, call, answers, after}
 
 unfoldable pub computed : Unit {0}
@@ -45,5 +45,5 @@ unfolding between sameOctets member isEmpty some-of each-of front headed itemsPa
     configurationAt reconfigureAt openAt shiftOne shiftEach shift leaveAt securityAt delayAt obey answer
     checkCall numberOr savedNumber refusalOf packetRefusal freshCall
     nothingSaid said toldOf payloadOf turnOf takes packetCall eventCall settingsOf shownAt settingsCall heard heardAt
-    delayCall packetsCall cutRefusal cutCall keptBy answered asked call answers after
+    delayCall standing nowhere standingAt statusCall packetsCall cutRefusal cutCall keptBy answered asked call answers after
 computed = tt

@@ -10,13 +10,14 @@ use Rattle.rules.specs.Octets.{if_then_else_, front, isEmpty}
 use Rattle.rules.specs.Book.{Entry, Book, bookNumber, bookOf, Found, unknown, known, find}
 use Rattle.rules.specs.Packets.{Message, Gathering, gather, sizeRight, longest}
 use Rattle.rules.specs.Cutting.{avdtp, packetsFor, packetAt, countOf}
-use Rattle.rules.specs.Endpoints.{Endpoint, Ends, Connection, freshConnection, endAt, happens}
+use Rattle.rules.specs.Endpoints.{Endpoint, Ends, Connection, idle, freshConnection, endAt, happens}
 use Rattle.rules.specs.Saved.{areaFor, connectionIn, store, savedRight}
 use Rattle.rules.specs.Commands.{Reply, silence, generalReject, accept, reject, answer}
 use Rattle.rules.specs.declared.OurSeid.{OurSeid}
 use Rattle.rules.specs.declared.Delay.{Delay}
 use Rattle.rules.specs.declared.Delay.the-variants.{Unreported, Reported}
 use Rattle.rules.specs.declared.Event.{Event}
+use Rattle.rules.specs.declared.Standing.{Standing}
 
 -- ---- check
 
@@ -172,6 +173,25 @@ delayCall book saved s =
     let asked = heardAt (find s (bookOf book)) (connectionIn (length (bookOf book)) saved .ends) in
     let number = refusalOf book saved in
     if eqb number 0 then asked else heard number Unreported
+
+-- ---- status: book, 12, 10
+
+unfoldable pub standing : ℕ → Endpoint → Standing
+standing number e = record { number = number; state = e .state; channel = e .channel; far = e .far }
+
+-- a refused status question shows idle, no channel, 0
+unfoldable pub nowhere : ℕ → Standing
+nowhere number = standing number (idle (record { 0 = 0 }))
+
+unfoldable pub standingAt : Found → Ends → Standing
+standingAt unknown ends = nowhere 10
+standingAt (known i n) ends = standing 0 (endAt ends i)
+
+unfoldable pub statusCall : List ℕ → List ℕ → OurSeid → Standing
+statusCall book saved s =
+    let asked = standingAt (find s (bookOf book)) (connectionIn (length (bookOf book)) saved .ends) in
+    let number = refusalOf book saved in
+    if eqb number 0 then asked else nowhere number
 
 -- ---- packets: how many, 0 where size or length is refused
 

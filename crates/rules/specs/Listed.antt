@@ -8,10 +8,11 @@ use lib.ListN.{length}
 use lib.Dec.{eqb}
 use Rattle.rules.specs.Octets.{member, isEmpty, front, between}
 use Rattle.rules.specs.Packets.{Message}
+use Rattle.rules.specs.Endpoints.{Endpoint}
 use Rattle.rules.specs.Host
 use Rattle.rules.specs.Host.{nothingSaid}
 use Rattle.rules.specs.Sessions.{Call, check, fresh, packet, event, settings, delay, packets, cut, Answer, number, told}
-use Rattle.rules.specs.Sessions.{shown, heard, counted, cutOff, Done}
+use Rattle.rules.specs.Sessions.{shown, heard, counted, cutOff, Done, stands, status}
 use Rattle.rules.specs.declared.OurSeid.{OurSeid}
 use Rattle.rules.specs.declared.Delay.{Delay}
 use Rattle.rules.specs.declared.Delay.the-variants.{Unreported}
@@ -26,6 +27,7 @@ numberIn (number n) = n
 numberIn (told t reply) = t .number
 numberIn (shown s) = s .number
 numberIn (heard h) = h .number
+numberIn (stands t) = t .number
 numberIn (counted n) = 0
 numberIn (cutOff c) = c .number
 
@@ -46,6 +48,7 @@ refusals (event (Down s)) = bookNumbers ++ (12 ∷ 10 ∷ [])
 refusals (event Lost) = bookNumbers ++ (12 ∷ [])
 refusals (settings s) = bookNumbers ++ (12 ∷ 10 ∷ [])
 refusals (delay s) = bookNumbers ++ (12 ∷ 10 ∷ [])
+refusals (status s) = bookNumbers ++ (12 ∷ 10 ∷ [])
 refusals (packets size n) = []
 refusals (cut size m k area) = 8 ∷ 11 ∷ 9 ∷ []
 
@@ -59,6 +62,7 @@ refusedWith (packet size p reply) n = told (nothingSaid n) reply
 refusedWith (event e) n = number n
 refusedWith (settings s) n = shown (record { number = n; part = [] })
 refusedWith (delay s) n = heard (Host.heard n Unreported)
+refusedWith (status s) n = stands (Host.nowhere n)
 refusedWith (packets size length) n = counted 0
 refusedWith (cut size m k area) n = cutOff (record { number = n; length = 0; area = area })
 
@@ -85,6 +89,7 @@ pub data Listed (saved : List ℕ) : Call → Done → Type 0 where
   shows : (s : OurSeid) (part : List ℕ) → isEmpty part ≡ false → length part ≤ 64
     → Listed saved (settings s) (record { answer = shown (record { number = 0; part = part }); saved = saved })
   hears : (s : OurSeid) (d : Delay) → Listed saved (delay s) (record { answer = heard (Host.heard 0 d); saved = saved })
+  tells : (s : OurSeid) (e : Endpoint) → Listed saved (status s) (record { answer = stands (Host.standing 0 e); saved = saved })
   counts : (size n k : ℕ) → k ≤ 11 → Listed saved (packets size n) (record { answer = counted k; saved = saved })
   cuts : (size : ℕ) (m : Message) (k : ℕ) (area written : List ℕ) → length written ≤ size
     → Listed saved (cut size m k area)

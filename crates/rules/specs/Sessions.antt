@@ -3,9 +3,10 @@ use Prim.Native.Nat.{ℕ}
 use mathlib.Core.List.{List, [], _∷_}
 use Rattle.rules.specs.Packets.{Message}
 use Rattle.rules.specs.Host.{checkCall, Kept, freshCall, Told, Answered, packetCall, eventCall, Shown, settingsCall}
-use Rattle.rules.specs.Host.{Heard, delayCall, packetsCall, Cut, cutCall}
+use Rattle.rules.specs.Host.{Heard, delayCall, statusCall, packetsCall, Cut, cutCall}
 use Rattle.rules.specs.declared.OurSeid.{OurSeid}
 use Rattle.rules.specs.declared.Event.{Event}
+use Rattle.rules.specs.declared.Standing.{Standing}
 
 pub data Call : Type 0 where
   check : Call
@@ -15,6 +16,7 @@ pub data Call : Type 0 where
   event : Event → Call
   settings : OurSeid → Call
   delay : OurSeid → Call
+  status : OurSeid → Call
   -- packet size, length of a payload
   packets : ℕ → ℕ → Call
   -- packet size, message, packet number, area
@@ -27,6 +29,7 @@ pub data Answer : Type 0 where
   -- the number of a settings question, and the part that it shows
   shown : Shown → Answer
   heard : Heard → Answer
+  stands : Standing → Answer
   -- how many packets
   counted : ℕ → Answer
   cutOff : Cut → Answer
@@ -52,6 +55,7 @@ call book saved (packet size p reply) = answered (packetCall book size saved p r
 call book saved (event e) = kept (eventCall book saved e)
 call book saved (settings s) = asked saved (shown (settingsCall book saved s))
 call book saved (delay s) = asked saved (heard (delayCall book saved s))
+call book saved (status s) = asked saved (stands (statusCall book saved s))
 call book saved (packets size n) = asked saved (counted (packetsCall size n))
 call book saved (cut size m k area) = asked saved (cutOff (cutCall size m k area))
 

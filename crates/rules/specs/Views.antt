@@ -11,9 +11,9 @@ use Rattle.rules.specs.Book.{Book, find, bookOf}
 use Rattle.rules.specs.Packets.{sizeRight}
 use Rattle.rules.specs.Endpoints.{Connection, freshConnection, happens}
 use Rattle.rules.specs.Saved.{connectionIn, savedRight}
-use Rattle.rules.specs.Host.{nothingSaid, takes, shownAt, heardAt, packetsCall, cutCall}
+use Rattle.rules.specs.Host.{nothingSaid, takes, shownAt, heardAt, standingAt, packetsCall, cutCall}
 use Rattle.rules.specs.Sessions.{Call, check, fresh, packet, event, settings, delay, packets, cut, Answer, number, told}
-use Rattle.rules.specs.Sessions.{shown, heard, counted, cutOff, call}
+use Rattle.rules.specs.Sessions.{shown, heard, counted, cutOff, call, status, stands}
 
 -- ---- A call over the connection: what it says, and where the connection goes
 
@@ -30,6 +30,7 @@ says book c (packet size p reply) =
 says book c (event v) = number (happens book c v .number)
 says book c (settings s) = shown (shownAt (find s book) (c .ends))
 says book c (delay s) = heard (heardAt (find s book) (c .ends))
+says book c (status s) = stands (standingAt (find s book) (c .ends))
 says book c (packets size n) = counted (packetsCall size n)
 says book c (cut size m k area) = cutOff (cutCall size m k area)
 
@@ -40,6 +41,7 @@ goes book c (packet size p reply) = if eqb (packetNumber size reply) 0 then take
 goes book c (event v) = happens book c v .connection
 goes book c (settings s) = c
 goes book c (delay s) = c
+goes book c (status s) = c
 goes book c (packets size n) = c
 goes book c (cut size m k area) = c
 

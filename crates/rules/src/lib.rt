@@ -110,3 +110,11 @@ pub struct Heard {
     pub reported: bool,
     pub tenths: u16,
 }
+
+// What the host is told of how an endpoint stands: a number, the state, the channel and the far SEID.
+pub struct Standing {
+    pub number: u8,
+    pub state: State,
+    pub channel: Channel,
+    pub far: FarSeid,
+}

@@ -1,6 +1,6 @@
 -- `step` meets its contract: each arm is the call of its kind.
 use borrow.Author.Needs.{needs}
-use Rattle.bridge_step.proofs.Made.{checks, freshens, takes, happens, shows, hears, counts, cuts}
+use Rattle.bridge_step.proofs.Made.{checks, freshens, takes, happens, shows, hears, stands, counts, cuts}
 use Rattle.bridge_step.proofs.step.Statement.{statement}
 use Rattle.bridge_step.proofs.step.Tie as tie
 
@@ -49,11 +49,17 @@ delay-requires c κs = search needs
 enum-known-call-5 : tie.Need-enum-known-call-5
 enum-known-call-5 c = search needs
 
-packets-requires : tie.Need-packets-requires
-packets-requires c κs = search needs
+status-requires : tie.Need-status-requires
+status-requires c κs = search needs
 
 enum-known-call-6 : tie.Need-enum-known-call-6
 enum-known-call-6 c = search needs
+
+packets-requires : tie.Need-packets-requires
+packets-requires c κs = search needs
+
+enum-known-call-7 : tie.Need-enum-known-call-7
+enum-known-call-7 c = search needs
 
 cut-requires : tie.Need-cut-requires
 cut-requires c κs = search needs
@@ -124,21 +130,28 @@ returns-6 c =
 
 returns-7 : tie.Need-returns-7
 returns-7 c =
+    let told = c .before .before .before in
+    let args = start (told .before .before) .args in
+    stands (args .book .now) (args .saved .now) (args .call) (args .input .now) (args .area .now) (args .room .now)
+      _ (told .call5 .given .1) _ (c .status .ensures)
+
+returns-8 : tie.Need-returns-8
+returns-8 c =
     let told = c .before .before in
     let args = start (told .before .before) .args in
     counts (args .book .now) (args .saved .now) (args .call) (args .input .now) (args .area .now) (args .room .now)
-      _ _ (told .call5 .given .1) _ (c .packets .ensures)
+      _ _ (told .call6 .given .1) _ (c .packets .ensures)
 
 same-length-7 : tie.Need-same-length-7
 same-length-7 c = search needs
 
-returns-8 : tie.Need-returns-8
-returns-8 c =
+returns-9 : tie.Need-returns-9
+returns-9 c =
     let made = c .before .before in
     let told = made .before .before .before in
     let args = start (told .before .before) .args in
     cuts (args .book .now) (args .saved .now) (args .call) (args .input .now) (args .area .now) (args .room .now)
-      _ _ _ _ _ (told .call6 .given .1) _ _ (made .cut .ensures)
+      _ _ _ _ _ (told .call7 .given .1) _ _ (made .cut .ensures)
 
 pub step-spec : {M : Type 1} → statement M
 step-spec =
@@ -158,8 +171,10 @@ step-spec =
     enum-known-call-4
     delay-requires
     enum-known-call-5
-    packets-requires
+    status-requires
     enum-known-call-6
+    packets-requires
+    enum-known-call-7
     cut-requires
     returns
     same-length
@@ -174,5 +189,6 @@ step-spec =
     same-length-6
     returns-6
     returns-7
+    returns-8
     same-length-7
-    returns-8)
+    returns-9)
