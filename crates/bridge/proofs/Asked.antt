@@ -24,7 +24,6 @@ use Rattle.book.proofs.Found.{entryBy, found-as, Placed, placed}
 use Rattle.saved.specs.Records.{loaded, endpointOf, recordAt, configAt}
 use Rattle.saved.specs.declared.records.Endpoint.{Endpoint as Head}
 use Rattle.saved.proofs.OneStore.{loaded-one}
-use Rattle.commands_reply.proofs.Serving.{misses}
 use Rattle.saved_events.proofs.Awaits.{has-room}
 use Rattle.bridge.specs.Calls.{Hears}
 use Rattle.bridge_packet.proofs.Halves.{behind-whole}
@@ -46,12 +45,12 @@ module _ (book saved : List ℕ) (s : OurSeid) where
 
   module _ (calm : Calm book saved) where
     pub missing-shown : placeIn s book ≡ Unknown → settingsCall book saved s ≡ record { number = 10; part = [] }
-    unfolding settingsCall shownAt
-    missing-shown e = rw (calm .allowed, misses s book e)
+    unfolding settingsCall shownAt foundBy
+    missing-shown e = rw (calm .allowed, found-as s book Unknown e)
 
     pub missing-heard : (r : HeardBy) → placeIn s book ≡ Unknown → heardBy r ≡ heard 10 Unreported → Hears book saved s r
-    unfolding delayCall heardAt
-    missing-heard r e said = said ∙ rw (calm .allowed, misses s book e)
+    unfolding delayCall heardAt foundBy
+    missing-heard r e said = said ∙ rw (calm .allowed, found-as s book Unknown e)
 
     pub there-shown : (i kind from size : ℕ) → placeIn s book ≡ Known i kind from size
       → settingsCall book saved s
