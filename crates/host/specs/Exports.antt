@@ -7,8 +7,8 @@ use lib.ListN.{length, getD}
 use lib.Dec.{eqb}
 use Rattle.rules.specs.Octets.{if_then_else_}
 use Rattle.rules.specs.Walks.{placeIn}
-use Rattle.rules.specs.Saved.{recordsPlace, recordRoom, headRoom}
-use Rattle.rules.specs.Host.{Kept, freshCall, Answered, packetCall, eventCall, refusalOf, Shown, settingsCall, delayCall, cutCall}
+use Rattle.rules.specs.Saved.{recordsPlace, recordRoom, headRoom, stateOctet, channelOctet}
+use Rattle.rules.specs.Host.{Kept, freshCall, Answered, packetCall, eventCall, refusalOf, Shown, settingsCall, delayCall, statusCall, cutCall}
 use Rattle.rules.specs.declared.OurSeid.{OurSeid}
 use Rattle.rules.specs.declared.Event.{Event}
 use Rattle.rules.specs.declared.Event.the-variants.{Up, Down, Lost}
@@ -19,6 +19,7 @@ use Rattle.host.specs.declared.Answer.{Answer}
 use Rattle.host.specs.declared.Span.{Span}
 use Rattle.host.specs.declared.Lag.{Lag}
 use Rattle.host.specs.declared.Written.{Written}
+use Rattle.host.specs.declared.Standing.{Standing}
 
 abbrev pub ours : ℕ → OurSeid
 ours seid = record { 0 = seid }
@@ -80,6 +81,18 @@ pub record Stands (book saved : List ℕ) (seid : ℕ) (r : Span) : Type 0 where
   pub place : r ≡ spanCall book saved (ours seid)
   pub shows : shownBy book saved r ≡ settingsCall book saved (ours seid)
   pub inside : r .offset + r .length ≤ length (areaBy (r .area) book saved)
+
+-- ---- status: the state and the channel by their octets in a record
+
+unfoldable pub statusBy : List ℕ → List ℕ → ℕ → Standing
+statusBy book saved seid =
+    let t = statusCall book saved (ours seid) in
+    record {
+      number = t .number;
+      state = stateOctet (t .state);
+      channel = channelOctet (t .channel);
+      far = t .far .0
+    }
 
 -- ---- delay, cut
 

@@ -12,7 +12,7 @@ use rules::layout::RECORDS;
 
 ghost use mathlib.Core.Path.{_≡_};
 ghost use Rattle.rules.specs.Host.{checkCall, packetsCall};
-ghost use Rattle.host.specs.Exports.{Freshens, Answers, Happens, Stands, Hears, Cuts};
+ghost use Rattle.host.specs.Exports.{Freshens, Answers, Happens, Stands, Hears, statusBy, Cuts};
 
 // What a packet leads to: a number, and of the reply its label, message type (0 silence, 1 general reject, 2 accept, 3 reject),
 // signal and length.
@@ -40,6 +40,16 @@ pub struct Lag {
     pub number: u8,
     pub reported: bool,
     pub tenths: u16,
+}
+
+// How an endpoint stands: a number, its state (0 idle, 1 configured, 2 open, 3 streaming, 4 closing, 5 aborting), its channel
+// (0 none, 1 awaited, 2 up) and the far SEID (0 none).
+#[repr(C)]
+pub struct Standing {
+    pub number: u8,
+    pub state: u8,
+    pub channel: u8,
+    pub far: u8,
 }
 
 // What the cutter tells: a number, and the length of the packet that was written.
@@ -145,6 +155,21 @@ pub extern "C" fn bawbeenor_delay(book: &[u8], saved: &[u8], seid: u8) -> Lag
         number: heard.number,
         reported: heard.reported,
         tenths: heard.tenths,
+    }
+}
+
+#[no_mangle]
+pub extern "C" fn bawbeenor_status(book: &[u8], saved: &[u8], seid: u8) -> Standing
+    ensures { λ r. ⌜ r ≡ statusBy (now (book .entry)) (now (saved .entry)) seid ⌝ }
+{
+    let told = bridge::status(book, saved, OurSeid(seid));
+    let state = told.state;
+    let channel = told.channel;
+    Standing {
+        number: told.number,
+        state: saved::records::state_octet(state),
+        channel: saved::records::channel_octet(channel),
+        far: told.far.0,
     }
 }
 

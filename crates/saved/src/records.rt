@@ -48,7 +48,7 @@ fn state_in(octet: u8) -> State
     }
 }
 
-fn state_octet(state: State) -> u8
+pub fn state_octet(state: State) -> u8
     ensures { λ r. ⌜ r ≡ stateOctet state ⌝ }
 {
     match state {
@@ -71,7 +71,7 @@ fn channel_in(octet: u8) -> Channel
     }
 }
 
-fn channel_octet(channel: Channel) -> u8
+pub fn channel_octet(channel: Channel) -> u8
     ensures { λ r. ⌜ r ≡ channelOctet channel ⌝ }
 {
     match channel {
