@@ -17,9 +17,9 @@ use Rattle.rules.specs.Wires.{cutBy}
 use Rattle.rules.specs.Answers.{toldBy}
 use Rattle.rules.specs.Sessions
 use Rattle.rules.specs.Sessions.{check, fresh, packet, event, settings, delay, packets, cut, number, told, shown, heard}
-use Rattle.rules.specs.Sessions.{counted, cutOff, Done, kept, answered, call, answers, after}
+use Rattle.rules.specs.Sessions.{counted, cutOff, Done, kept, answered, call, answers, after, stands, status}
 use Rattle.rules.specs.Listed.{EachListed}
-use Rattle.rules.specs.Moves.{turns, turnsIn, StoppedSeen}
+use Rattle.rules.specs.Moves.{shifts, shiftsIn, StoppedSeen}
 use Rattle.rules.specs.Alike.{alike, restrained, Begins, begun, lost, cleared, compared}
 use Rattle.rules.specs.declared.State.the-variants.{Idle}
 use Rattle.rules.specs.declared.Event.the-variants.{Lost}
@@ -110,6 +110,7 @@ numberBy (Answer.Number n) = n
 numberBy (Answer.Told t) = 0
 numberBy (Answer.Shown n size) = 0
 numberBy (Answer.Heard h) = 0
+numberBy (Answer.Stands t) = 0
 numberBy (Answer.Counted n) = 0
 numberBy (Answer.CutOff piece) = 0
 
@@ -178,7 +179,7 @@ pub hosts-unmoved : (book saved : List ℕ) (asks : List Asked) (said : List Ses
   → savedRight (bookOf book) saved ≡ true → Runs book saved asks said last
   → (size : ℕ) (p reply room : List ℕ) (t : ToldBy) (next reply′ room′ : List ℕ)
   → Steps book last (Call.Packet size) p reply room (Answer.Told t) next reply′ room′
-  → turnsIn (gather size (connectionIn (length (bookOf book)) last .gathering) p .done) ≡ false → (t .kind ≡ 2 → ⊥)
+  → shiftsIn (gather size (connectionIn (length (bookOf book)) last .gathering) p .done) ≡ false → (t .kind ≡ 2 → ⊥)
   → connectionIn (length (bookOf book)) next .ends ≡ connectionIn (length (bookOf book)) last .ends
 hosts-unmoved book saved asks said last ok right runs size p reply room t next reply′ room′ step other refused =
     let legal = hosts-legal book saved asks said last ok right runs .right in
@@ -192,15 +193,15 @@ pub hosts-stopped : (book saved : List ℕ) (asks : List Asked) (said : List Ses
   → savedRight (bookOf book) saved ≡ true → Runs book saved asks said last
   → (size : ℕ) (p reply room : List ℕ) (t : ToldBy) (next reply′ room′ : List ℕ)
   → Steps book last (Call.Packet size) p reply room (Answer.Told t) next reply′ room′
-  → (m : Message) → gather size (connectionIn (length (bookOf book)) last .gathering) p .done ≡ some m → turns m ≡ true
+  → (m : Message) → gather size (connectionIn (length (bookOf book)) last .gathering) p .done ≡ some m → shifts m ≡ true
   → isEmpty (m .payload) ≡ false → t .kind ≡ 3
   → StoppedSeen (bookOf book) (connectionIn (length (bookOf book)) last .ends) reply m
       (record { told = toldBy t; saved = next; reply = reply′ })
-hosts-stopped book saved asks said last ok right runs size p reply room t next reply′ room′ step m done turn lists rejected =
+hosts-stopped book saved asks said last ok right runs size p reply room t next reply′ room′ step m done shift lists rejected =
     let legal = hosts-legal book saved asks said last ok right runs .right in
     let e = packet-made book last p reply room size t next reply′ room′ step in
     subst (StoppedSeen (bookOf book) (connectionIn (length (bookOf book)) last .ends) reply m) (sym e)
-      (packet-stopped book size last p reply ok legal m done turn lists
+      (packet-stopped book size last p reply ok legal m done shift lists
          (sym (ap (λ (a : Answered). a .told .type) e) ∙ rejected))
 
 -- ---- Demand 3 of what runs

@@ -1,2 +1,2 @@
 pub mod OtherKinds
-pub mod Standing
+pub mod SettingsStand

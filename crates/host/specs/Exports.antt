@@ -8,7 +8,8 @@ use lib.Dec.{eqb}
 use Rattle.rules.specs.Octets.{if_then_else_}
 use Rattle.rules.specs.Walks.{placeIn}
 use Rattle.rules.specs.Saved.{recordsPlace, recordRoom, headRoom, stateOctet, channelOctet}
-use Rattle.rules.specs.Host.{Kept, freshCall, Answered, packetCall, eventCall, refusalOf, Shown, settingsCall, delayCall, statusCall, cutCall}
+use Rattle.rules.specs.Host.{Kept, freshCall, Answered, packetCall, eventCall, refusalOf, Shown, settingsCall, delayCall, cutCall}
+use Rattle.rules.specs.Host.{statusCall}
 use Rattle.rules.specs.declared.OurSeid.{OurSeid}
 use Rattle.rules.specs.declared.Event.{Event}
 use Rattle.rules.specs.declared.Event.the-variants.{Up, Down, Lost}

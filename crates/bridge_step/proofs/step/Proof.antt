@@ -128,6 +128,9 @@ returns-6 c =
     hears (args .book .now) (args .saved .now) (args .call) (args .input .now) (args .area .now) (args .room .now)
       _ (told .call4 .given .1) _ (c .delay .ensures)
 
+same-length-7 : tie.Need-same-length-7
+same-length-7 c = search needs
+
 returns-7 : tie.Need-returns-7
 returns-7 c =
     let told = c .before .before .before in
@@ -142,8 +145,8 @@ returns-8 c =
     counts (args .book .now) (args .saved .now) (args .call) (args .input .now) (args .area .now) (args .room .now)
       _ _ (told .call6 .given .1) _ (c .packets .ensures)
 
-same-length-7 : tie.Need-same-length-7
-same-length-7 c = search needs
+same-length-8 : tie.Need-same-length-8
+same-length-8 c = search needs
 
 returns-9 : tie.Need-returns-9
 returns-9 c =
@@ -188,7 +191,8 @@ step-spec =
     returns-5
     same-length-6
     returns-6
+    same-length-7
     returns-7
     returns-8
-    same-length-7
+    same-length-8
     returns-9)

@@ -8,7 +8,7 @@ use lib.ListN.{length}
 use Rattle.rules.specs.Saved.{recordRoom}
 use Rattle.bridge.proofs.Refusing.{Calm}
 use Rattle.host.specs.Exports.{recordFrom}
-use Rattle.host.proofs.Standing.{told-none, told-some, missing, record-inside, offer-stands, stored-stands}
+use Rattle.host.proofs.SettingsStand.{told-none, told-some, missing, record-inside, offer-stands, stored-stands}
 use Rattle.host.proofs.bawbeenor_settings.Statement.{statement}
 use Rattle.host.proofs.bawbeenor_settings.Tie as tie
 
