@@ -3,17 +3,16 @@ ghost use mathlib.Core.Path.{_≡_};
 ghost use Prim.Native.Nat.{_+_, _*_, _≤_, min};
 ghost use lib.ListN.{length};
 
-pub fn wide(octet: u8) -> usize
-    ensures { λ r. ⌜ (r ≡ octet) × (r ≤ 255) ⌝ }
-{
-    octet as usize
-}
-
 // Two octets, the high one first.
 pub fn pair(high: u8, low: u8) -> usize
     ensures { λ r. ⌜ (r ≡ high * 256 + low) × (r ≤ 65535) ⌝ }
 {
     high as usize * 256 + low as usize
+}
+
+// The low octet of a number.
+pub fn octet(n: usize) -> u8 {
+    (n % 256) as u8
 }
 
 // Lays octets into an area at a place, if they fit.

@@ -1,30 +1,35 @@
 // The saved records as a script shows and writes them (docs/SAVED.md draws the layout).
+ghost use Prim.Native.Nat.{_≤_};
+use crate::octs::front;
 use crate::octs::lay;
+use crate::octs::octet;
 use crate::octs::pair;
-use crate::octs::wide;
+use crate::says::fill;
+use crate::says::phrase;
 use crate::says::say;
-use crate::says::say_around;
-use crate::says::say_entry;
-use crate::says::say_number;
 use crate::says::say_octets;
-use crate::state::State;
+use replay_script::lines::rest;
+use replay_script::numbers::wide;
+use replay_script::reading::DASH;
 
 // Where the records begin, and how long one is.
 pub const FIRST: usize = 520;
 
 pub const ROOM: usize = 80;
 
+// The place of record i; behind every area where a connection cannot have it.
+fn place(i: usize) -> usize
+    ensures { λ r. ⌜ r ≤ 65536 ⌝ }
+{
+    if 15 < i {
+        return 65536;
+    }
+    FIRST + ROOM * i
+}
+
 // Record i, empty where the area does not have it.
 pub fn record(saved: &[u8], i: usize) -> &[u8] {
-    if 15 < i {
-        return &saved[0..0];
-    }
-    let from = FIRST + ROOM * i;
-    let to = from + ROOM;
-    if to <= saved.len() {
-        return &saved[from..to];
-    }
-    &saved[0..0]
+    front(rest(saved, place(i)), ROOM)
 }
 
 // Whether a record is there and has this SEID.
@@ -47,124 +52,122 @@ pub fn find(saved: &[u8], records: usize, seid: u8) -> usize {
     16
 }
 
-fn say_delay(state: &mut State, out: &mut [u8], mark: u8, high: u8, low: u8) {
-    if mark == 0 {
-        say(state, out, b"-");
-        return;
-    }
-    say_number(state, out, pair(high, low));
-}
-
 // The configuration of a record.
 pub fn config(slot: &[u8]) -> &[u8] {
     if slot.len() != ROOM {
         return &slot[0..0];
     }
-    let length = wide(slot[7]);
-    if 64 < length {
-        return &slot[0..0];
-    }
-    &slot[8..8 + length]
+    front(&slot[8..72], wide(slot[7]))
 }
 
-fn say_config(state: &mut State, out: &mut [u8], config: &[u8]) {
-    if config.len() == 0 {
-        say(state, out, b" -\n");
+// The name of a state, behind a text.
+pub fn say_state(before: &[u8], state: u8) {
+    say(before);
+    phrase(
+        b"\x00:idle\n\x01:configured\n\x02:open\n\x03:streaming\n\x04:closing\n\x05:aborting\n",
+        state,
+        0,
+        0,
+    );
+}
+
+// The name of a channel, behind a text.
+pub fn say_channel(before: &[u8], channel: u8) {
+    say(before);
+    phrase(b"\x00:none\n\x01:awaited\n\x02:up\n", channel, 0, 0);
+}
+
+fn say_delay(mark: u8, tenths: usize) {
+    if mark == 0 {
+        say(b"-");
         return;
     }
-    say(state, out, b" ");
-    say_octets(state, out, b"", config);
-    say(state, out, b"\n");
+    fill(b"$", tenths, 0);
 }
 
-// SEID, state, channel and far SEID.
-fn show_head(state: &mut State, out: &mut [u8], seid: u8, condition: u8, channel: u8, far: u8) {
-    say_number(state, out, wide(seid));
-    say_entry(
-        state,
-        out,
-        b"\x00 idle\n\x01 configured\n\x02 open\n\x03 streaming\n\x04 closing\n\x05 aborting\n",
-        condition,
-    );
-    say_entry(state, out, b"\x00 none \n\x01 awaited \n\x02 up \n", channel);
-    say_around(state, out, b"", wide(far), b" ");
+fn say_config(config: &[u8]) {
+    if config.len() == 0 {
+        say(b" -\n");
+        return;
+    }
+    say(b" ");
+    say_octets(false, config);
+    say(b"\n");
 }
 
 // One record: SEID STATE CHANNEL FAR DELAY CONFIG.
-fn show(state: &mut State, out: &mut [u8], slot: &[u8]) {
+fn show(slot: &[u8]) {
     if slot.len() != ROOM {
         return;
     }
-    show_head(state, out, slot[0], slot[1], slot[2], slot[3]);
-    say_delay(state, out, slot[4], slot[5], slot[6]);
-    say_config(state, out, config(slot));
+    fill(b"$", wide(slot[0]), 0);
+    say_state(b" ", slot[1]);
+    say_channel(b" ", slot[2]);
+    fill(b" $ ", wide(slot[3]), 0);
+    say_delay(slot[4], pair(slot[5], slot[6]));
+    say_config(config(slot));
 }
 
-pub fn show_all(state: &mut State, out: &mut [u8], saved: &[u8], records: usize) {
+pub fn show_all(saved: &[u8], records: usize) {
     let mut i = 0;
     while i < records {
-        show(state, out, record(saved, i));
+        show(record(saved, i));
         i += 1;
     }
 }
 
-// What a `record` line says of an endpoint, but for its configuration; a delay above 65,535 stands for none.
-pub struct Line {
-    pub state: u8,
-    pub channel: u8,
-    pub far: u8,
-    pub delay: usize,
+// A delay as it is saved: whether there is one, and its tenths.
+fn marked(delay: usize) -> u8 {
+    if delay == DASH {
+        return 0;
+    }
+    1
 }
 
-// Overwrites a record from its state on, with a delay that is there or not.
-fn write_slot(slot: &mut [u8], said: Line, mark: u8, tenths: u16, config: &[u8]) {
-    if 64 < config.len() {
-        return;
+fn tenths(delay: usize) -> usize {
+    if delay == DASH {
+        return 0;
     }
+    delay
+}
+
+// Overwrites record i from its state on; a dash stands for no delay.
+pub fn write(
+    saved: &mut [u8],
+    i: usize,
+    state: usize,
+    channel: usize,
+    far: usize,
+    delay: usize,
+    config: &[u8],
+) {
+    let at = place(i);
     let head = [
-        said.state,
-        said.channel,
-        said.far,
-        mark,
-        (tenths / 256) as u8,
-        (tenths % 256) as u8,
-        config.len() as u8,
+        octet(state),
+        octet(channel),
+        octet(far),
+        marked(delay),
+        octet(tenths(delay) / 256),
+        octet(tenths(delay)),
+        octet(config.len()),
     ];
-    lay(slot, 1, &head);
-    lay(slot, 8, config);
+    lay(saved, at + 1, &head);
+    lay(saved, at + 8, config);
 }
 
-fn write_delayed(slot: &mut [u8], said: Line, config: &[u8]) {
-    let delay = said.delay;
-    if delay <= 65535 {
-        write_slot(slot, said, 1, delay as u16, config);
-        return;
-    }
-    write_slot(slot, said, 0, 0, config);
-}
-
-// Overwrites record i.
-pub fn write(saved: &mut [u8], i: usize, said: Line, config: &[u8]) {
-    if 15 < i {
-        return;
-    }
-    let from = FIRST + ROOM * i;
-    let to = from + ROOM;
-    if to <= saved.len() {
-        write_delayed(&mut saved[from..to], said, config);
-    }
-}
-
-// Overwrites the gathering.
-pub fn write_gathering(saved: &mut [u8], label: u8, kind: u8, signal: u8, count: u8, parts: u8, payload: &[u8]) {
-    if saved.len() < FIRST {
-        return;
-    }
+// Overwrites the gathering: its label, message type, signal, count and parts, and its payload.
+pub fn write_gathering(saved: &mut [u8], numbers: [usize; 6], payload: &[u8]) {
     let length = payload.len();
-    if 512 < length {
-        return;
-    }
-    let head = [1u8, label, kind, signal, count, parts, (length / 256) as u8, (length % 256) as u8];
+    let head = [
+        1,
+        octet(numbers[0]),
+        octet(numbers[1]),
+        octet(numbers[2]),
+        octet(numbers[3]),
+        octet(numbers[4]),
+        octet(length / 256),
+        octet(length),
+    ];
     lay(saved, 0, &head);
     lay(saved, 8, payload);
 }

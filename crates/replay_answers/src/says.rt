@@ -1,68 +1,114 @@
-// Answers go through one buffer, which is written out when it is full and at the end.
-use crate::state::FILLED;
-use crate::state::State;
+// What is written: texts, in which `$` stands for a number, texts of a table, and octets. Each piece is written at once, so that who
+// types a script sees each answer before the next line.
+use crate::octs::front;
+use crate::octs::lay;
 use libc::STDOUT_FILENO;
-use replay_script::tables::entry;
+use replay_script::hexes::spell;
+use replay_script::lines::part;
+use replay_script::lines::rest;
+use replay_script::tables::said;
 
-// Writes out what waits.
-pub fn flush(state: &mut State, out: &[u8]) {
-    let filled = state[FILLED];
-    if filled <= out.len() {
-        io::write_all(STDOUT_FILENO, &out[0..filled]);
-    }
-    state[FILLED] = 0;
-}
-
-pub fn say(state: &mut State, out: &mut [u8], text: &[u8]) {
-    let filled = state[FILLED];
-    if filled <= out.len() {
-        if text.len() <= out.len() - filled {
-            octets::put(out, filled, text);
-            state[FILLED] = filled + text.len();
-            return;
-        }
-    }
-    flush(state, out);
-    if text.len() <= out.len() {
-        octets::put(out, 0, text);
-        state[FILLED] = text.len();
-        return;
-    }
+pub fn say(text: &[u8]) {
     io::write_all(STDOUT_FILENO, text);
 }
 
-pub fn say_number(state: &mut State, out: &mut [u8], n: usize) {
-    let mut digits = [0u8; 20];
-    let count = io::decimal(n as u64, &mut digits);
-    say(state, out, &digits[..count]);
+// A text from a place on, up to a `$` and with the number for it; answers the place behind it.
+fn piece(text: &[u8], at: usize, number: usize) -> usize {
+    if text.len() <= at {
+        return at;
+    }
+    let before = part(text, at, b'$');
+    let end = at + before.len();
+    say(before);
+    if end < text.len() {
+        io::print_decimal(STDOUT_FILENO, number as u64);
+        return end + 1;
+    }
+    end
 }
 
-// A number between two texts.
-pub fn say_around(state: &mut State, out: &mut [u8], before: &[u8], n: usize, behind: &[u8]) {
-    say(state, out, before);
-    say_number(state, out, n);
-    say(state, out, behind);
+// A text in which the first `$` stands for one number, and the second for another.
+pub fn fill(text: &[u8], a: usize, b: usize) {
+    let second = piece(text, 0, a);
+    let last = piece(text, second, b);
+    say(rest(text, last));
 }
 
 // What a table has under a key.
-pub fn say_entry(state: &mut State, out: &mut [u8], table: &[u8], key: u8) {
-    say(state, out, entry(table, key));
+pub fn phrase(table: &[u8], key: u8, a: usize, b: usize) {
+    let name = [key];
+    fill(said(table, &name), a, b);
 }
 
-// Two digits, in capitals.
-pub fn say_octet(state: &mut State, out: &mut [u8], octet: u8) {
-    let mut digits = [0u8; 2];
-    digits[0] = replay_script::hexes::spell(octet / 16);
-    digits[1] = replay_script::hexes::spell(octet % 16);
-    say(state, out, &digits);
+// Two digits in capitals, with a blank before them or none, laid into a text; answers the place behind them.
+fn lay_octet(text: &mut [u8], at: usize, parted: bool, octet: u8) -> usize {
+    let high = spell(octet / 16);
+    let low = spell(octet % 16);
+    if 4096 < at {
+        return at;
+    }
+    if parted {
+        lay(text, at, &[32, high, low]);
+        return at + 3;
+    }
+    lay(text, at, &[high, low]);
+    at + 2
 }
 
-// Octets, with the same text before each: a blank, or nothing.
-pub fn say_octets(state: &mut State, out: &mut [u8], gap: &[u8], octets: &[u8]) {
+// Octets, with a blank before each or none.
+pub fn say_octets(parted: bool, octets: &[u8]) {
+    let mut text = [0u8; 4099];
+    let mut end = 0;
     let mut i = 0;
     while i < octets.len() {
-        say(state, out, gap);
-        say_octet(state, out, octets[i]);
+        end = lay_octet(&mut text, end, parted, octets[i]);
         i += 1;
     }
+    say(front(&text, end));
+}
+
+// The answers.
+pub const BOOK: u8 = b'b';
+
+pub const REFUSED: u8 = b'r';
+
+pub const SILENT: u8 = b's';
+
+pub const PACKET: u8 = b'>';
+
+pub const EVENT: u8 = b'e';
+
+pub const SETTINGS: u8 = b'q';
+
+pub const UNREPORTED: u8 = b'u';
+
+pub const REPORTED: u8 = b'd';
+
+pub const CUT: u8 = b'c';
+
+pub const NOT_UNDERSTOOD: u8 = b'n';
+
+// An answer, with the octets that it ends in.
+pub fn answer_with(key: u8, a: usize, b: usize, octets: &[u8]) {
+    phrase(
+        b"b:book $\n\
+        r:refused $\n\
+        s:silent\n\
+        >:>\n\
+        e:event $\n\
+        q:settings $\n\
+        u:delay $ unreported $\n\
+        d:delay $ reported $\n\
+        c:cut $\n\
+        n:line $ not understood\n",
+        key,
+        a,
+        b,
+    );
+    say_octets(true, octets);
+    say(b"\n");
+}
+
+pub fn answer(key: u8, a: usize, b: usize) {
+    answer_with(key, a, b, b"");
 }

@@ -35,8 +35,13 @@ trimmed s = take (keptOf s - blanksOf s) (drop (blanksOf s) s)
 unfoldable pub stepOf : List ℕ → List ℕ
 stepOf line = trimmed (take (firstOf 35 line) line)
 
-unfoldable pub wordAt : ℕ → List ℕ → List ℕ
-wordAt at s = take (firstOf 32 (drop at s)) (drop at s)
+-- what stands from a place on, up to the first c or to the end
+unfoldable pub partAt : ℕ → ℕ → List ℕ → List ℕ
+partAt c at s = take (firstOf c (drop at s)) (drop at s)
+
+-- the word at a place, up to its blank (32)
+abbrev pub wordAt : ℕ → List ℕ → List ℕ
+wordAt at s = partAt 32 at s
 
 unfoldable pub nextAt : ℕ → List ℕ → ℕ
 nextAt at s = if ltb (at + length (wordAt at s)) (length s) then at + length (wordAt at s) + 1 else length s

@@ -1,16 +1,34 @@
--- A table of texts: lines, each a key and what stands under it.
+-- A table of texts: lines, each a name, a colon (58) and what is said under the name.
 use Prim.Native.Nat.{ℕ, suc, _+_}
+use Prim.Native.Char.{code}
+use Prim.Native.String.{String}
+use Prim.Native.String.{[] as none-left, _∷_ as _then_}
 use mathlib.Core.List.{List, [], _∷_}
 use mathlib.Core.Bool.{Bool, true, _&&_}
-use lib.ListN.{take, drop}
+use lib.ListN.{length, drop}
 use lib.Dec.{eqb}
-use Rattle.rules.specs.Octets.{if_then_else_}
-use Rattle.replay_script.specs.Lines.{firstOf}
+use Rattle.rules.specs.Octets.{if_then_else_, sameOctets}
+use Rattle.replay_script.specs.Lines.{partAt}
+use Rattle.replay_script.specs.Numbers.{none}
 
--- where the first line that begins with the key begins; a line begins behind a newline (10), and where `starts`
-unfoldable pub keyedOf : ℕ → Bool → List ℕ → ℕ
-keyedOf key starts [] = 0
-keyedOf key starts (x ∷ xs) = if starts && eqb x key then 0 else suc (keyedOf key (eqb x 10) xs)
+-- where the first line of the name begins; a line begins behind a newline (10), and where `starts`
+unfoldable pub namedOf : List ℕ → Bool → List ℕ → ℕ
+namedOf name starts [] = 0
+namedOf name starts (x ∷ xs) =
+    if starts && sameOctets (partAt 58 0 (x ∷ xs)) name then 0 else suc (namedOf name (eqb x 10) xs)
 
-unfoldable pub entryOf : ℕ → List ℕ → List ℕ
-entryOf key table = take (firstOf 10 (drop (keyedOf key true table + 1) table)) (drop (keyedOf key true table + 1) table)
+unfoldable pub saidOf : List ℕ → List ℕ → List ℕ
+saidOf name table = drop (length name + 1) (partAt 10 (namedOf name true table) table)
+
+-- the first octet, none where there is none
+unfoldable pub frontOf : List ℕ → ℕ
+frontOf [] = none
+frontOf (x ∷ xs) = x
+
+unfoldable pub valueOf : List ℕ → List ℕ → ℕ
+valueOf name table = frontOf (saidOf name table)
+
+-- a table as it is written
+abbrev pub octetsOf : String → List ℕ
+octetsOf none-left = []
+octetsOf (c then s) = code c ∷ octetsOf s

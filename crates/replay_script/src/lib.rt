@@ -2,5 +2,6 @@
 pub mod lines;
 pub mod numbers;
 pub mod hexes;
-pub mod names;
 pub mod tables;
+pub mod names;
+pub mod reading;

@@ -2,7 +2,7 @@
 // each; the place of a word is where it begins, and behind the last word it is the length of the step.
 ghost use mathlib.Core.Path.{_≡_};
 ghost use lib.ListN.{drop};
-ghost use Rattle.replay_script.specs.Lines.{firstOf, isBlank, blanksOf, keptOf, stepOf, wordAt, nextAt};
+ghost use Rattle.replay_script.specs.Lines.{firstOf, isBlank, blanksOf, keptOf, stepOf, partAt, wordAt, nextAt};
 
 // The place of the first `octet`, the length where there is none.
 pub fn first(s: &[u8], octet: u8) -> usize
@@ -75,16 +75,30 @@ pub fn step(line: &[u8]) -> &[u8]
     &text[from..to]
 }
 
-// The word at a place, empty behind the end.
-pub fn word(s: &[u8], at: usize) -> &[u8]
-    ensures { λ r. ⌜ now r ≡ wordAt at (now (s .entry)) ⌝ }
+// All that is left from a place on.
+pub fn rest(s: &[u8], at: usize) -> &[u8]
+    ensures { λ r. ⌜ now r ≡ drop at (now (s .entry)) ⌝ }
 {
     if s.len() < at {
         return &s[0..0];
     }
-    let left = &s[at..];
-    let n = first(left, 32);
+    &s[at..]
+}
+
+// What stands from a place on, up to the first `mark` or to the end.
+pub fn part(s: &[u8], at: usize, mark: u8) -> &[u8]
+    ensures { λ r. ⌜ now r ≡ partAt mark at (now (s .entry)) ⌝ }
+{
+    let left = rest(s, at);
+    let n = first(left, mark);
     &left[0..n]
+}
+
+// The word at a place, empty behind the end.
+pub fn word(s: &[u8], at: usize) -> &[u8]
+    ensures { λ r. ⌜ now r ≡ wordAt at (now (s .entry)) ⌝ }
+{
+    part(s, at, 32)
 }
 
 // The place of the word behind the one at `at`.
@@ -99,14 +113,4 @@ pub fn next(s: &[u8], at: usize) -> usize
         return end + 1;
     }
     s.len()
-}
-
-// All that is left from a place on.
-pub fn rest(s: &[u8], at: usize) -> &[u8]
-    ensures { λ r. ⌜ now r ≡ drop at (now (s .entry)) ⌝ }
-{
-    if s.len() < at {
-        return &s[0..0];
-    }
-    &s[at..]
 }

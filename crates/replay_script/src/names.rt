@@ -1,126 +1,48 @@
-// The words of steps, states and channels, as numbers.
+// The names of steps, states and channels.
 ghost use mathlib.Core.Path.{_≡_};
-ghost use Rattle.replay_script.specs.Names.{stepNumber, stateNumber, channelNumber};
+ghost use Rattle.replay_script.specs.Names.{stepOf, stateOf, channelOf};
+use crate::tables::value;
 
-pub const BOOK: u8 = 1;
+// The steps. Under a step's name stand its letter, `+` where it needs a book and `-` where it does not, what stands at its end, and
+// the words before that, a letter each (`reading` has their meaning). A name may have several words.
+pub const STEPS: [u8; 193] = *b"book:b-*\n\
+    rebook:r+*\n\
+    size:s-.n\n\
+    area:a-.n\n\
+    packet:p+*\n\
+    up:u+.\n\
+    down:d+.o\n\
+    lost:l+.\n\
+    settings:q+.o\n\
+    delay:t+.o\n\
+    states:e+.\n\
+    record:w+koscod\n\
+    gathering none:n+.\n\
+    gathering:g+pooooo\n\
+    cut:c-*nooonn\n\
+    explain:x-.\n";
 
-pub const REBOOK: u8 = 2;
-
-pub const SIZE: u8 = 3;
-
-pub const AREA: u8 = 4;
-
-pub const PACKET: u8 = 5;
-
-pub const UP: u8 = 6;
-
-pub const DOWN: u8 = 7;
-
-pub const LOST: u8 = 8;
-
-pub const SETTINGS: u8 = 9;
-
-pub const DELAY: u8 = 10;
-
-pub const STATES: u8 = 11;
-
-pub const RECORD: u8 = 12;
-
-pub const GATHERING: u8 = 13;
-
-pub const CUT: u8 = 14;
-
-pub const EXPLAIN: u8 = 15;
-
-// The step that a word names; 0 where it names none.
-pub fn step(word: &[u8]) -> u8
-    ensures { λ r. ⌜ r ≡ stepNumber (now (word .entry)) ⌝ }
+// The letter of a step, NONE where no step has the name.
+pub fn step(name: &[u8]) -> usize
+    ensures { λ r. ⌜ r ≡ stepOf (now (name .entry)) ⌝ }
 {
-    if octets::same(word, b"book") {
-        return BOOK;
-    }
-    if octets::same(word, b"rebook") {
-        return REBOOK;
-    }
-    if octets::same(word, b"size") {
-        return SIZE;
-    }
-    if octets::same(word, b"area") {
-        return AREA;
-    }
-    if octets::same(word, b"packet") {
-        return PACKET;
-    }
-    if octets::same(word, b"up") {
-        return UP;
-    }
-    if octets::same(word, b"down") {
-        return DOWN;
-    }
-    if octets::same(word, b"lost") {
-        return LOST;
-    }
-    if octets::same(word, b"settings") {
-        return SETTINGS;
-    }
-    if octets::same(word, b"delay") {
-        return DELAY;
-    }
-    if octets::same(word, b"states") {
-        return STATES;
-    }
-    if octets::same(word, b"record") {
-        return RECORD;
-    }
-    if octets::same(word, b"gathering") {
-        return GATHERING;
-    }
-    if octets::same(word, b"cut") {
-        return CUT;
-    }
-    if octets::same(word, b"explain") {
-        return EXPLAIN;
-    }
-    0
+    let table = STEPS;
+    value(&table, name)
 }
 
-// The octet of a state; 6 where the word names none.
-pub fn state(word: &[u8]) -> u8
-    ensures { λ r. ⌜ r ≡ stateNumber (now (word .entry)) ⌝ }
+// The octet of a state, NONE where the word names none.
+pub fn state(word: &[u8]) -> usize
+    ensures { λ r. ⌜ r ≡ stateOf (now (word .entry)) ⌝ }
 {
-    if octets::same(word, b"idle") {
-        return 0;
-    }
-    if octets::same(word, b"configured") {
-        return 1;
-    }
-    if octets::same(word, b"open") {
-        return 2;
-    }
-    if octets::same(word, b"streaming") {
-        return 3;
-    }
-    if octets::same(word, b"closing") {
-        return 4;
-    }
-    if octets::same(word, b"aborting") {
-        return 5;
-    }
-    6
+    value(
+        b"idle:\x00\nconfigured:\x01\nopen:\x02\nstreaming:\x03\nclosing:\x04\naborting:\x05\n",
+        word,
+    )
 }
 
-// The octet of a channel; 3 where the word names none.
-pub fn channel(word: &[u8]) -> u8
-    ensures { λ r. ⌜ r ≡ channelNumber (now (word .entry)) ⌝ }
+// The octet of a channel, NONE where the word names none.
+pub fn channel(word: &[u8]) -> usize
+    ensures { λ r. ⌜ r ≡ channelOf (now (word .entry)) ⌝ }
 {
-    if octets::same(word, b"none") {
-        return 0;
-    }
-    if octets::same(word, b"awaited") {
-        return 1;
-    }
-    if octets::same(word, b"up") {
-        return 2;
-    }
-    3
+    value(b"none:\x00\nawaited:\x01\nup:\x02\n", word)
 }

@@ -1,5 +1,6 @@
 // Decimal numbers: one or more digits, leading zeros allowed, up to a limit of at most 65,535.
 ghost use mathlib.Core.Path.{_≡_};
+ghost use Prim.Native.Nat.{_≤_};
 ghost use Rattle.replay_script.specs.Numbers.{numberOf};
 
 // What stands for no number.
@@ -29,4 +30,10 @@ pub fn number(word: &[u8], most: u16) -> usize
         i += 1;
     }
     value
+}
+
+pub fn wide(octet: u8) -> usize
+    ensures { λ r. ⌜ (r ≡ octet) × (r ≤ 255) ⌝ }
+{
+    octet as usize
 }

@@ -1,19 +1,21 @@
-// A table is text in one piece: lines, each a key octet and what is to be said under that key.
+// A table is text in one piece: lines, each a name, a colon and what is said under that name.
 ghost use mathlib.Core.Path.{_≡_};
 ghost use mathlib.Core.Bool.{true};
-ghost use Rattle.replay_script.specs.Tables.{keyedOf, entryOf};
-use crate::lines::first;
+ghost use Rattle.replay_script.specs.Tables.{namedOf, saidOf, valueOf};
+use crate::lines::part;
 use crate::lines::rest;
+use crate::numbers::NONE;
+use crate::numbers::wide;
 
-// The place of the first line that begins with the key; the length where there is none.
-fn keyed(table: &[u8], key: u8) -> usize
-    ensures { λ r. ⌜ r ≡ keyedOf key true (now (table .entry)) ⌝ }
+// The place of the first line of a name; the length where there is none.
+fn named(table: &[u8], name: &[u8]) -> usize
+    ensures { λ r. ⌜ r ≡ namedOf (now (name .entry)) true (now (table .entry)) ⌝ }
 {
     let mut starts = true;
     let mut i = 0;
     while i < table.len() {
         if starts {
-            if table[i] == key {
+            if octets::same(part(table, i, b':'), name) {
                 return i;
             }
         }
@@ -23,15 +25,21 @@ fn keyed(table: &[u8], key: u8) -> usize
     i
 }
 
-// What is to be said under a key; nothing where the table does not have it.
-pub fn entry(table: &[u8], key: u8) -> &[u8]
-    ensures { λ r. ⌜ now r ≡ entryOf key (now (table .entry)) ⌝ }
+// What is said under a name; nothing where the table does not have it.
+pub fn said<'a>(table: &'a [u8], name: &[u8]) -> &'a [u8]
+    ensures { λ r. ⌜ now r ≡ saidOf (now (name .entry)) (now (table .entry)) ⌝ }
 {
-    let at = keyed(table, key);
-    if table.len() <= at {
-        return &table[0..0];
+    let line = part(table, named(table, name), 10);
+    rest(line, name.len() + 1)
+}
+
+// The octet that is said under a name; NONE where the table does not have it.
+pub fn value(table: &[u8], name: &[u8]) -> usize
+    ensures { λ r. ⌜ r ≡ valueOf (now (name .entry)) (now (table .entry)) ⌝ }
+{
+    let text = said(table, name);
+    if text.len() == 0 {
+        return NONE;
     }
-    let text = rest(table, at + 1);
-    let end = first(text, 10);
-    &text[0..end]
+    wide(text[0])
 }

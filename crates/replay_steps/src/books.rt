@@ -1,16 +1,10 @@
 // book and rebook.
-use crate::reading::octets_from;
-use crate::reasons::FINE;
-use crate::reasons::ODD;
+use replay_answers::kept::Kept;
 use replay_answers::octs::lay;
-use replay_answers::octs::wide;
 use replay_answers::records;
-use replay_answers::says::say_around;
-use replay_answers::state::BOOK;
-use replay_answers::state::EXPLAINS;
-use replay_answers::state::LENT;
-use replay_answers::state::RECORDS;
-use replay_answers::state::State;
+use replay_answers::says;
+use replay_answers::says::answer;
+use replay_script::numbers::wide;
 use replay_words::notes;
 
 // The count of endpoints that a book says it has.
@@ -33,61 +27,29 @@ fn lent(records: usize, entries: usize) -> usize {
     records::FIRST + records::ROOM * entries
 }
 
-// Keeps a book that was accepted.
-fn keep(state: &mut State, book: &mut [u8], number: u8, given: &[u8]) {
+// Answers, and keeps a book that was accepted over a connection of so many records.
+fn adopt(kept: Kept, number: u8, good: u8, records: usize, given: &[u8], book: &mut [u8]) -> Kept {
+    answer(says::BOOK, wide(number), 0);
+    if kept.explains {
+        notes::note(number, notes::NO_ENDPOINT, good, 0, 0);
+    }
     if number != 0 {
-        return;
+        return kept;
     }
     lay(book, 0, given);
-    state[BOOK] = given.len();
-    state[LENT] = lent(state[RECORDS], entries(given));
-}
-
-// Counts the records of a fresh connection.
-fn begin(state: &mut State, number: u8, given: &[u8]) {
-    if number == 0 {
-        state[RECORDS] = entries(given);
-    }
-}
-
-fn answer(state: &mut State, out: &mut [u8], number: u8, fresh: bool) {
-    say_around(state, out, b"book ", wide(number), b"\n");
-    if state[EXPLAINS] == 1 {
-        notes::book(state, out, number, fresh);
-    }
+    let mut next = kept;
+    next.book = given.len();
+    next.records = records;
+    next.lent = lent(records, entries(given));
+    next
 }
 
 // book HEX..
-pub fn book(
-    step: &[u8],
-    at: usize,
-    state: &mut State,
-    book: &mut [u8],
-    saved: &mut [u8],
-    data: &mut [u8],
-    out: &mut [u8],
-) -> u8 {
-    let count = octets_from(step, at, data);
-    if data.len() < count {
-        return ODD;
-    }
-    let given = &data[0..count];
-    let number = bridge::fresh(given, saved);
-    begin(state, number, given);
-    keep(state, book, number, given);
-    answer(state, out, number, true);
-    FINE
+pub fn book(kept: Kept, given: &[u8], book: &mut [u8], saved: &mut [u8]) -> Kept {
+    adopt(kept, bridge::fresh(given, saved), notes::FRESH, entries(given), given, book)
 }
 
 // rebook HEX..
-pub fn rebook(step: &[u8], at: usize, state: &mut State, book: &mut [u8], data: &mut [u8], out: &mut [u8]) -> u8 {
-    let count = octets_from(step, at, data);
-    if data.len() < count {
-        return ODD;
-    }
-    let given = &data[0..count];
-    let number = bridge::check(given);
-    keep(state, book, number, given);
-    answer(state, out, number, false);
-    FINE
+pub fn rebook(kept: Kept, given: &[u8], book: &mut [u8]) -> Kept {
+    adopt(kept, bridge::check(given), notes::KEPT, kept.records, given, book)
 }

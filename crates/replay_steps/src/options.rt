@@ -1,37 +1,23 @@
 // size, area, explain: what holds from here on.
-use crate::reading::last_number;
-use crate::reasons::FINE;
-use crate::reasons::ODD;
-use replay_answers::state::AREA;
-use replay_answers::state::EXPLAINS;
-use replay_answers::state::SIZE;
-use replay_answers::state::State;
+use replay_answers::kept::Kept;
 
 // size N
-pub fn size(step: &[u8], at: usize, state: &mut State) -> u8 {
-    let n = last_number(step, at, 65535);
-    if 65535 < n {
-        return ODD;
-    }
-    state[SIZE] = n;
-    FINE
+pub fn size(kept: Kept, n: usize) -> Kept {
+    let mut next = kept;
+    next.size = n;
+    next
 }
 
 // area N
-pub fn area(step: &[u8], at: usize, state: &mut State) -> u8 {
-    let n = last_number(step, at, 65535);
-    if 65535 < n {
-        return ODD;
-    }
-    state[AREA] = n;
-    FINE
+pub fn area(kept: Kept, n: usize) -> Kept {
+    let mut next = kept;
+    next.area = n;
+    next
 }
 
 // explain
-pub fn explain(step: &[u8], at: usize, state: &mut State) -> u8 {
-    if at < step.len() {
-        return ODD;
-    }
-    state[EXPLAINS] = 1;
-    FINE
+pub fn explain(kept: Kept) -> Kept {
+    let mut next = kept;
+    next.explains = true;
+    next
 }

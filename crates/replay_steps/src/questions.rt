@@ -1,98 +1,80 @@
-// settings, delay and states: what the host may ask, and what is saved.
-use crate::reading::last_number;
-use crate::reasons::FINE;
-use crate::reasons::ODD;
+// settings, delay, states and cut: what the host may ask, what is saved, and one packet of a message.
+use replay_answers::kept::Kept;
 use replay_answers::octs::front;
-use replay_answers::octs::wide;
+use replay_answers::octs::octet;
+use replay_answers::octs::within;
 use replay_answers::records;
-use replay_answers::says::say;
-use replay_answers::says::say_around;
-use replay_answers::says::say_octets;
-use replay_answers::state::BOOK;
-use replay_answers::state::EXPLAINS;
-use replay_answers::state::LENT;
-use replay_answers::state::RECORDS;
-use replay_answers::state::State;
-use rules::OurSeid;
+use replay_answers::says;
+use replay_answers::says::answer;
+use replay_answers::says::answer_with;
+use replay_script::numbers::wide;
 use replay_words::notes;
 use replay_words::silences;
+use rules::OurSeid;
+use rules::Piece;
 
-fn say_settings(state: &mut State, out: &mut [u8], number: u8, part: &[u8]) {
-    if number != 0 {
-        say_around(state, out, b"settings ", wide(number), b"\n");
-        return;
-    }
-    say(state, out, b"settings 0");
-    say_octets(state, out, b" ", part);
-    say(state, out, b"\n");
-}
-
-// Whether the endpoint of a SEID has a configuration.
-fn configured(saved: &[u8], seid: u8) -> bool {
+// The key of what settings are: the configuration of an endpoint that has one, or what it offers.
+fn settings_key(saved: &[u8], seid: u8) -> u8 {
     let slot = records::record(saved, records::find(saved, 16, seid));
-    0 < records::config(slot).len()
-}
-
-fn explain_settings(state: &mut State, out: &mut [u8], number: u8, saved: &[u8], seid: u8) {
-    if state[EXPLAINS] == 1 {
-        notes::settings(state, out, number, configured(saved, seid));
+    if records::config(slot).len() == 0 {
+        return notes::OFFERED;
     }
+    notes::CONFIGURED
 }
 
 // settings SEID
-pub fn settings<'a>(
-    step: &[u8],
-    at: usize,
-    state: &mut State,
-    book: &'a [u8],
-    saved: &'a [u8],
-    out: &mut [u8],
-) -> u8 {
-    let seid = last_number(step, at, 255);
-    if 255 < seid {
-        return ODD;
+pub fn settings<'a>(kept: Kept, book: &'a [u8], saved: &'a [u8], seid: u8) {
+    let lent = front(saved, kept.lent);
+    let number = bridge::settings_told(book, lent, OurSeid(seid));
+    answer_with(says::SETTINGS, wide(number), 0, bridge::settings(book, lent, OurSeid(seid)));
+    if kept.explains {
+        notes::note(number, notes::NO_ENDPOINT, settings_key(lent, seid), 0, 0);
     }
-    let known = front(book, state[BOOK]);
-    let kept = front(saved, state[LENT]);
-    let number = bridge::settings_told(known, kept, OurSeid(seid as u8));
-    let part = bridge::settings(known, kept, OurSeid(seid as u8));
-    say_settings(state, out, number, part);
-    explain_settings(state, out, number, kept, seid as u8);
-    FINE
 }
 
-fn say_delay(state: &mut State, out: &mut [u8], number: u8, reported: bool, tenths: u16) {
-    say_around(state, out, b"delay ", wide(number), b"");
+// The keys of a delay that was reported, or was not.
+fn either(reported: bool, yes: u8, no: u8) -> u8 {
     if reported {
-        say_around(state, out, b" reported ", tenths as usize, b"\n");
-        return;
+        return yes;
     }
-    say_around(state, out, b" unreported ", tenths as usize, b"\n");
+    no
 }
 
 // delay SEID
-pub fn delay(step: &[u8], at: usize, state: &mut State, book: &[u8], saved: &[u8], out: &mut [u8]) -> u8 {
-    let seid = last_number(step, at, 255);
-    if 255 < seid {
-        return ODD;
+pub fn delay(kept: Kept, book: &[u8], saved: &[u8], seid: u8) {
+    let heard = bridge::delay(book, front(saved, kept.lent), OurSeid(seid));
+    let tenths = heard.tenths as usize;
+    answer(either(heard.reported, says::REPORTED, says::UNREPORTED), wide(heard.number), tenths);
+    if kept.explains {
+        let good = either(heard.reported, notes::REPORTED, notes::UNREPORTED);
+        notes::note(heard.number, notes::NO_ENDPOINT, good, tenths / 10, tenths % 10);
     }
-    let heard = bridge::delay(front(book, state[BOOK]), front(saved, state[LENT]), OurSeid(seid as u8));
-    say_delay(state, out, heard.number, heard.reported, heard.tenths);
-    if state[EXPLAINS] == 1 {
-        notes::delay(state, out, heard.number, heard.reported, heard.tenths);
-    }
-    FINE
 }
 
 // states
-pub fn states(step: &[u8], at: usize, state: &mut State, saved: &[u8], out: &mut [u8]) -> u8 {
-    if at < step.len() {
-        return ODD;
+pub fn states(kept: Kept, saved: &[u8]) {
+    records::show_all(saved, kept.records);
+    if kept.explains {
+        silences::gathering(saved);
     }
-    let count = state[RECORDS];
-    records::show_all(state, out, saved, count);
-    if state[EXPLAINS] == 1 {
-        silences::gathering(state, out, saved);
+}
+
+fn make(numbers: [usize; 6], payload: &[u8], area: &mut [u8]) -> Piece {
+    let room = within(numbers[4], area);
+    let size = numbers[0];
+    let index = numbers[5];
+    let area = &mut area[0..room];
+    bridge::cut(size, octet(numbers[1]), octet(numbers[2]), octet(numbers[3]), payload, index, area)
+}
+
+// cut SIZE LABEL TYPE SIGNAL AREA N HEX..
+pub fn cut(kept: Kept, numbers: [usize; 6], payload: &[u8]) {
+    let mut area = [0u8; 65536];
+    let piece = make(numbers, payload, &mut area);
+    let length = piece.length;
+    answer_with(says::CUT, wide(piece.number), 0, front(&area, length));
+    if kept.explains {
+        let count = bridge::packets(numbers[0], payload.len());
+        notes::note(piece.number, notes::NO_ENDPOINT, notes::PACKET_OF, numbers[5], count);
     }
-    FINE
 }

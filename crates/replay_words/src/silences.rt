@@ -1,10 +1,9 @@
 // Why a packet is not answered, by the packet and by what was being gathered before and is being gathered after it.
 use crate::notes::sentence;
 use replay_answers::octs::pair;
-use replay_answers::octs::wide;
+use replay_answers::says::fill;
 use replay_answers::says::say;
-use replay_answers::says::say_around;
-use replay_answers::state::State;
+use replay_script::numbers::wide;
 
 // Label, message type, packet type: the parts of a packet's first octet.
 fn label_of(octet: u8) -> u8 {
@@ -104,25 +103,25 @@ fn key(size: usize, packet: &[u8], gathering: &[u8]) -> u8 {
     }
 }
 
-fn say_why(state: &mut State, out: &mut [u8], key: u8) {
+fn say_why(key: u8) {
     sentence(
-        state,
-        out,
-        b"aan Abort whose payload is not 1 octet gets no answer\n\
-        uan Abort for a SEID that is not in the book gets no answer\n\
-        na message that is no command gets no answer\n\
-        ean empty packet gets no answer\n\
-        zthe packet is longer than the packet size\n\
-        sa single packet has 2 octets or more\n\
-        ta start packet has 3 octets or more\n\
-        ca start packet announces 2 packets or more\n\
-        pthe payload would be above 512 octets\n\
-        oa continue or end packet, and no message is being gathered\n\
-        lthe packet has another label than the message that is being gathered\n\
-        kthe packet has another message type than the message that is being gathered\n\
-        Ea continue packet, and the last one is owed, an end\n\
-        Can end packet, and more than one is still owed\n",
+        b"a:an Abort whose payload is not 1 octet gets no answer\n\
+        u:an Abort for a SEID that is not in the book gets no answer\n\
+        n:a message that is no command gets no answer\n\
+        e:an empty packet gets no answer\n\
+        z:the packet is longer than the packet size\n\
+        s:a single packet has 2 octets or more\n\
+        t:a start packet has 3 octets or more\n\
+        c:a start packet announces 2 packets or more\n\
+        p:the payload would be above 512 octets\n\
+        o:a continue or end packet, and no message is being gathered\n\
+        l:the packet has another label than the message that is being gathered\n\
+        k:the packet has another message type than the message that is being gathered\n\
+        E:a continue packet, and the last one is owed, an end\n\
+        C:an end packet, and more than one is still owed\n",
         key,
+        0,
+        0,
     );
 }
 
@@ -143,24 +142,17 @@ fn completes(packet: &[u8], key: u8) -> bool {
     key == b'n'
 }
 
-// A message of several packets of which not all have come.
-fn gathered(state: &mut State, out: &mut [u8], label: u8, count: u8, parts: u8, length: usize) {
-    say_around(state, out, b"# part ", wide(parts), b" of ");
-    say_around(state, out, b"", wide(count), b" of the message with label ");
-    say_around(state, out, b"", wide(label), b"; ");
-    say_around(state, out, b"", length, b" octets of payload so far\n");
-}
-
-// What is being gathered.
-pub fn gathering(state: &mut State, out: &mut [u8], saved: &[u8]) {
+// What is being gathered: a message of several packets of which not all have come.
+pub fn gathering(saved: &[u8]) {
     if saved.len() < 8 {
         return;
     }
     if saved[0] == 0 {
-        say(state, out, b"# no message is being gathered\n");
+        say(b"# no message is being gathered\n");
         return;
     }
-    gathered(state, out, saved[1], saved[4], saved[5], pair(saved[6], saved[7]));
+    fill(b"# part $ of $ of the message", wide(saved[5]), wide(saved[4]));
+    fill(b" with label $; $ octets of payload so far\n", wide(saved[1]), pair(saved[6], saved[7]));
 }
 
 // Whether something was being gathered.
@@ -171,20 +163,20 @@ fn gathers(saved: &[u8]) -> bool {
     saved[0] != 0
 }
 
-fn dropped(state: &mut State, out: &mut [u8], before: &[u8]) {
+fn dropped(before: &[u8]) {
     if gathers(before) {
-        say(state, out, b"# the message that was being gathered is dropped\n");
+        say(b"# the message that was being gathered is dropped\n");
     }
 }
 
 // A packet that ended the gathering, or found none.
-fn ended(state: &mut State, out: &mut [u8], size: usize, packet: &[u8], before: &[u8]) {
+fn ended(size: usize, packet: &[u8], before: &[u8]) {
     let why = key(size, packet, before);
-    say_why(state, out, why);
+    say_why(why);
     if completes(packet, why) {
         return;
     }
-    dropped(state, out, before);
+    dropped(before);
 }
 
 fn is_start(packet: &[u8]) -> bool {
@@ -195,15 +187,13 @@ fn is_start(packet: &[u8]) -> bool {
 }
 
 // A packet that was not answered.
-pub fn silent(state: &mut State, out: &mut [u8], size: usize, packet: &[u8], before: &[u8], after: &[u8]) {
+pub fn silent(size: usize, packet: &[u8], before: &[u8], after: &[u8]) {
     if !gathers(after) {
-        ended(state, out, size, packet, before);
+        ended(size, packet, before);
         return;
     }
     if is_start(packet) {
-        dropped(state, out, before);
-        gathering(state, out, after);
-        return;
+        dropped(before);
     }
-    gathering(state, out, after);
+    gathering(after);
 }
