@@ -77,14 +77,14 @@ const CHOICES: [(Choice, usize); 19] = [
     (Choice::Settings, 40),
     (Choice::Delay, 40),
     (Choice::LegalRecord, 30),
-    (Choice::DamagedRecord, 28),
-    (Choice::LegalGathering, 25),
-    (Choice::DamagedGathering, 14),
+    (Choice::DamagedRecord, 34),
+    (Choice::LegalGathering, 20),
+    (Choice::DamagedGathering, 26),
     (Choice::NoGathering, 5),
     (Choice::RelatedRebook, 14),
-    (Choice::DamagedRebook, 9),
+    (Choice::DamagedRebook, 12),
     (Choice::ValidBook, 6),
-    (Choice::DamagedBook, 22),
+    (Choice::DamagedBook, 40),
     (Choice::Size, 25),
     (Choice::Area, 12),
     (Choice::Cut, 70),
@@ -139,7 +139,7 @@ impl Generator {
         let area_fits = usize::from(self.session.area) >= SMALLEST_REPLY_AREA;
         let legal = held.connection.is_legal(&held.book);
         // Two or three reasons to refuse a packet at once show which counts first.
-        if !(size_fits && area_fits && legal) && self.rng.chance(80) {
+        if !(size_fits && area_fits && legal) && self.rng.chance(140) {
             return if self.rng.chance(500) { Step::Size(47) } else { Step::Area(63) };
         }
         if !size_fits && self.rng.chance(400) {
@@ -163,6 +163,9 @@ impl Generator {
         if underway && !self.in_long_row() && self.rng.chance(10) {
             // The packets that come after this belong to nothing.
             return Step::Event(Event::Lost);
+        }
+        if underway && !self.in_long_row() && area_fits && self.rng.chance(25) {
+            return Step::Area(63);
         }
         if !self.row.is_empty() && self.rng.chance(goes_on) {
             // A refused packet is sent again: it did not end the gathering.

@@ -20,7 +20,7 @@ pub fn message(rng: &mut Rng, held: &Held, size: usize) -> Message {
         let signal = rng.pick(&[signal, SECURITY_CONTROL, 0x0E, 0x3F]);
         let length = match rng.below(3) {
             0 => size - rng.below(4),
-            _ => rng.pick(&[511, 512, 512, 513, 513, 514]),
+            _ => rng.pick(&[511, 512, 512, 513, 513, 513, 514]),
         };
         payload.resize(length, 0);
         signal
@@ -69,7 +69,9 @@ fn likely(rng: &mut Rng, held: &Held, place: usize) -> u8 {
             (OPEN, 40),
             (DELAY_REPORT, 20),
             (GET_CONFIGURATION, 8),
-            (SET_CONFIGURATION, 4),
+            (SET_CONFIGURATION, 6),
+            (RECONFIGURE, 4),
+            (CLOSE, 4),
             (ABORT, 4),
             (DISCOVER, 4),
             (SECURITY_CONTROL, 4),
@@ -86,14 +88,14 @@ fn likely(rng: &mut Rng, held: &Held, place: usize) -> u8 {
         (State::Open, _) => &[
             (START, 30),
             (RECONFIGURE, 40),
-            (CLOSE, 8),
+            (CLOSE, 14),
             (DELAY_REPORT, 8),
             (GET_CONFIGURATION, 6),
             (ABORT, 4),
         ],
         (State::Streaming, _) => &[
             (SUSPEND, 35),
-            (RECONFIGURE, 6),
+            (RECONFIGURE, 9),
             (SET_CONFIGURATION, 4),
             (SECURITY_CONTROL, 4),
             (CLOSE, 12),
@@ -102,7 +104,15 @@ fn likely(rng: &mut Rng, held: &Held, place: usize) -> u8 {
             (GET_CONFIGURATION, 6),
             (DISCOVER, 4),
         ],
-        _ => &[(ABORT, 4), (GET_CONFIGURATION, 4), (DELAY_REPORT, 4), (CLOSE, 4), (DISCOVER, 4)],
+        _ => &[
+            (ABORT, 3),
+            (GET_CONFIGURATION, 6),
+            (DELAY_REPORT, 6),
+            (RECONFIGURE, 4),
+            (CLOSE, 4),
+            (SET_CONFIGURATION, 3),
+            (DISCOVER, 3),
+        ],
     };
     let weights: Vec<usize> = commands.iter().map(|(_, weight)| *weight).collect();
     commands[rng.weighted(&weights)].0
@@ -119,6 +129,7 @@ fn channel(held: &Held, place: usize) -> Channel {
 
 pub fn payload(rng: &mut Rng, held: &Held, place: usize, signal: u8) -> Vec<u8> {
     let mut payload = match signal {
+        DISCOVER if rng.chance(120) => vec![our_octet(rng, held, place)],
         DISCOVER => Vec::new(),
         SET_CONFIGURATION => set_configuration(rng, held, place),
         RECONFIGURE => reconfigure(rng, held, place),
@@ -188,7 +199,9 @@ pub fn far_seid(rng: &mut Rng) -> u8 {
 
 fn set_configuration(rng: &mut Rng, held: &Held, place: usize) -> Vec<u8> {
     let offered = &held.book.entries[place].offered;
-    let far = if rng.chance(90) { rng.pick(&[0, 63]) } else { far_seid(rng) };
+    // With an endpoint in use a wrong far SEID shows which counts first.
+    let wrong = if state(held, place) == State::Idle { 90 } else { 400 };
+    let far = if rng.chance(wrong) { rng.pick(&[0, 63]) } else { far_seid(rng) };
     let list = lists::configuration(rng, offered);
     let list = lists::as_sent(rng, list);
     let head = vec![our_octet(rng, held, place), far << 2 | reserved(rng)];
