@@ -21,7 +21,7 @@ use crate::numbers::DONE;
 use crate::packets::{Gathering, Message};
 use crate::rng::Rng;
 use crate::script::Step;
-use crate::session::{Outcome, Session};
+use crate::session::{Held, Outcome, Session};
 
 const LONG_ROW: u8 = 20;
 
@@ -33,6 +33,7 @@ pub fn script(seed: u64, count: u64, out: &mut impl Write) -> io::Result<()> {
         home: Vec::new(),
         // At the size and the area of the start this is answered; at a smaller one it is not.
         row: VecDeque::from([[&[0x10, DISCOVER][..], &[0; 500]].concat()]),
+        plan: VecDeque::new(),
         steps: 0,
         next_longest_row: 500,
     };
@@ -53,6 +54,8 @@ enum Choice {
     States,
     Settings,
     Delay,
+    Status,
+    Count,
     LegalRecord,
     DamagedRecord,
     LegalGathering,
@@ -61,6 +64,7 @@ enum Choice {
     RelatedRebook,
     DamagedRebook,
     ValidBook,
+    ShorterBook,
     DamagedBook,
     Size,
     Area,
@@ -70,12 +74,14 @@ enum Choice {
 }
 
 /// How often each kind of step is chosen, by weight.
-const CHOICES: [(Choice, usize); 19] = [
+const CHOICES: [(Choice, usize); 22] = [
     (Choice::Message, 500),
     (Choice::Event, 80),
     (Choice::States, 60),
     (Choice::Settings, 40),
     (Choice::Delay, 40),
+    (Choice::Status, 45),
+    (Choice::Count, 14),
     (Choice::LegalRecord, 30),
     (Choice::DamagedRecord, 34),
     (Choice::LegalGathering, 20),
@@ -84,6 +90,7 @@ const CHOICES: [(Choice, usize); 19] = [
     (Choice::RelatedRebook, 14),
     (Choice::DamagedRebook, 12),
     (Choice::ValidBook, 6),
+    (Choice::ShorterBook, 8),
     (Choice::DamagedBook, 40),
     (Choice::Size, 25),
     (Choice::Area, 12),
@@ -99,6 +106,8 @@ struct Generator {
     home: Vec<u8>,
     /// Packets that are to come next.
     row: VecDeque<Vec<u8>>,
+    /// Other steps that are to come soon.
+    plan: VecDeque<Step>,
     steps: u64,
     /// A row of the most packets takes long, so that it comes seldom, but soon for the first time.
     next_longest_row: u64,
@@ -109,7 +118,7 @@ impl Generator {
         self.steps += 1;
         let line = if !self.in_long_row() && self.rng.chance(35) {
             let step = self.free_step();
-            let saved = self.session.held.iter().flat_map(|held| &held.connection.records);
+            let saved = self.session.held.iter().flat_map(Held::shown);
             let seids: Vec<u8> = saved.map(|record| record.seid.0).chain([1]).collect();
             let seid = self.rng.pick(&seids);
             text::odd(&mut self.rng, &step, seid)
@@ -118,8 +127,14 @@ impl Generator {
             text::written(&mut self.rng, &step)
         };
         let outcome = self.session.line(&line);
-        if let (Outcome::Book(DONE), Some(held)) = (outcome, &self.session.held) {
-            self.home = books::same(&held.book);
+        if let Some(held) = &self.session.held {
+            match outcome {
+                Outcome::Book(DONE) => self.home = books::same(&held.book),
+                Outcome::Event(Event::Lost, DONE) if self.rng.chance(300) => {
+                    self.plan.push_front(Step::Status(calls::asked(&mut self.rng, held)));
+                }
+                _ => (),
+            }
         }
         line
     }
@@ -141,6 +156,11 @@ impl Generator {
         // Two or three reasons to refuse a packet at once show which counts first.
         if !(size_fits && area_fits && legal) && self.rng.chance(140) {
             return if self.rng.chance(500) { Step::Size(47) } else { Step::Area(63) };
+        }
+        if !self.in_long_row() && self.rng.chance(400) {
+            if let Some(step) = self.plan.pop_front() {
+                return step;
+            }
         }
         if !size_fits && self.rng.chance(400) {
             return Step::Size(self.good_size());
@@ -192,6 +212,8 @@ impl Generator {
             Choice::States => Step::States,
             Choice::Settings => Step::Settings(calls::asked(rng, held)),
             Choice::Delay => Step::Delay(calls::asked(rng, held)),
+            Choice::Status => Step::Status(calls::asked(rng, held)),
+            Choice::Count => Step::Count(calls::count(rng, held)),
             Choice::LegalRecord => Step::Record(self.record(saved::legal_record)),
             Choice::DamagedRecord => Step::Record(self.record(saved::damaged_record)),
             Choice::LegalGathering => self.gathering(),
@@ -200,6 +222,7 @@ impl Generator {
             Choice::RelatedRebook => Step::Rebook(books::related(rng, &held.book)),
             Choice::DamagedRebook => Step::Rebook(books::damaged(rng)),
             Choice::ValidBook => Step::Book(books::valid(rng)),
+            Choice::ShorterBook => self.shorter_book(),
             Choice::DamagedBook => Step::Book(books::damaged(rng)),
             Choice::Size => Step::Size(self.any_size()),
             Choice::Area => Step::Area(rng.pick(&[0, 1, 63, 63, 63, 64, 65, 65535])),
@@ -226,6 +249,8 @@ impl Generator {
                     Step::Event(event),
                     Step::Settings(OurSeid(1)),
                     Step::Delay(OurSeid(1)),
+                    Step::Status(OurSeid(1)),
+                    Step::Count(1),
                     Step::Gathering(None),
                 ];
                 steps[rng.below(steps.len())].clone()
@@ -248,12 +273,16 @@ impl Generator {
         if connection.gathering.as_ref().is_some_and(|gathering| !gathering.is_legal()) {
             return if rng.chance(500) { Step::Gathering(None) } else { self.gathering() };
         }
-        let records = &connection.records;
-        let pairs = || records.iter().zip(&held.book.entries);
+        let entries = held.book.entries.len();
+        let counted = usize::from(connection.count);
+        if counted != entries && (counted != held.shown().len() || rng.chance(500)) {
+            return Step::Count(entries as u8);
+        }
+        let pairs = || connection.records_of(&held.book).iter().zip(&held.book.entries);
         let same_seids = pairs().all(|(record, entry)| record.seid == entry.seid);
-        if records.len() != held.book.entries.len() || !same_seids {
+        if counted != entries || !same_seids {
             // A record that the book has no entry for can be overwritten all the same.
-            let strange = records.iter().find(|record| held.book.place_of(record.seid).is_none());
+            let strange = held.shown().iter().find(|record| held.book.place_of(record.seid).is_none());
             return match strange {
                 Some(record) if rng.chance(400) => Step::Record(Record::idle(record.seid)),
                 _ => Step::Rebook(self.home.clone()),
@@ -264,6 +293,10 @@ impl Generator {
             .find(|(record, entry)| !record.is_legal(entry))
             .or_else(|| pairs().find(|(record, _)| awaits(record)));
         match at_fault {
+            // A record behind those shown cannot be overwritten.
+            Some((_, entry)) if held.shown().iter().all(|record| record.seid != entry.seid) => {
+                Step::Rebook(self.home.clone())
+            }
             Some((_, entry)) if rng.chance(500) => Step::Record(saved::legal_record(rng, entry)),
             Some((_, entry)) => Step::Record(Record::idle(entry.seid)),
             None => Step::States,
@@ -278,11 +311,25 @@ impl Generator {
         };
         let place = self.rng.below(held.book.entries.len());
         let mut record = make(&mut self.rng, &held.book.entries[place]);
-        match held.connection.records.get(place) {
+        match held.shown().get(place) {
             Some(saved) if self.rng.chance(900) => record.seid = saved.seid,
             _ => (),
         }
         record
+    }
+
+    /// The front of the book in use as a book of its own. Soon the whole book is back, and the count with it: the
+    /// records behind the front are as they were left.
+    fn shorter_book(&mut self) -> Step {
+        let rng = &mut self.rng;
+        let Some(held) = &self.session.held else {
+            return Step::Book(books::valid(rng));
+        };
+        let mut back = [Step::Count(held.book.entries.len() as u8), Step::Rebook(books::same(&held.book))];
+        rng.shuffle(&mut back);
+        self.plan.extend(back);
+        self.plan.push_back(Step::Status(calls::asked(rng, held)));
+        Step::Book(books::front(rng, &held.book))
     }
 
     /// A legal gathering; where it owes few packets, these come next.

@@ -257,6 +257,14 @@ fn draft_of(book: &Book) -> Draft {
     Draft::of(entries.collect())
 }
 
+/// The first entries of a book, all but one at most, as a book.
+pub fn front(rng: &mut Rng, book: &Book) -> Vec<u8> {
+    let mut draft = draft_of(book);
+    let most = draft.entries.len().max(2) - 1;
+    draft.entries.truncate(rng.between(1, most));
+    draft.octets()
+}
+
 /// A valid book, mostly, that differs from the one in use so that a connection saved for that is legal or not.
 pub fn related(rng: &mut Rng, book: &Book) -> Vec<u8> {
     let mut draft = draft_of(book);

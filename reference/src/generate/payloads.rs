@@ -118,13 +118,12 @@ fn likely(rng: &mut Rng, held: &Held, place: usize) -> u8 {
     commands[rng.weighted(&weights)].0
 }
 
-/// The saved records may be fewer than the entries, or others, after a `rebook`.
 fn state(held: &Held, place: usize) -> State {
-    held.connection.records.get(place).map_or(State::Idle, |record| record.state)
+    held.connection.records[place].state
 }
 
 fn channel(held: &Held, place: usize) -> Channel {
-    held.connection.records.get(place).map_or(Channel::None, |record| record.channel)
+    held.connection.records[place].channel
 }
 
 pub fn payload(rng: &mut Rng, held: &Held, place: usize, signal: u8) -> Vec<u8> {
@@ -176,7 +175,8 @@ fn our_octet(rng: &mut Rng, held: &Held, place: usize) -> u8 {
 pub fn unknown(rng: &mut Rng, held: &Held) -> u8 {
     let is_unknown = |seid: &u8| held.book.place_of(OurSeid(*seid)).is_none();
     let seids: Vec<u8> = (0..=63).filter(is_unknown).collect();
-    let far = held.connection.records.iter().map(|record| record.far.0).find(is_unknown);
+    let records = held.connection.records_of(&held.book);
+    let far = records.iter().map(|record| record.far.0).find(is_unknown);
     let any = rng.pick(&seids);
     let far = far.unwrap_or(any);
     rng.pick(&[0, 63, any, far, far])
