@@ -7,6 +7,7 @@ mod cuts;
 mod lists;
 mod parts;
 mod payloads;
+mod rare;
 mod saved;
 mod text;
 
@@ -18,10 +19,11 @@ use crate::bridge::{size_is_good, Event, SMALLEST_REPLY_AREA, SMALLEST_SIZE};
 use crate::commands::DISCOVER;
 use crate::endpoints::{Channel, Record};
 use crate::numbers::DONE;
-use crate::packets::{Gathering, Message};
+use crate::packets::{Gathering, Message, CONTINUE};
 use crate::rng::Rng;
 use crate::script::Step;
 use crate::session::{Held, Outcome, Session};
+use rare::Seen;
 
 const LONG_ROW: u8 = 20;
 
@@ -34,6 +36,7 @@ pub fn script(seed: u64, count: u64, out: &mut impl Write) -> io::Result<()> {
         // At the size and the area of the start this is answered; at a smaller one it is not.
         row: VecDeque::from([[&[0x10, DISCOVER][..], &[0; 500]].concat()]),
         plan: VecDeque::new(),
+        seen: Seen::default(),
         steps: 0,
         next_longest_row: 500,
     };
@@ -108,6 +111,8 @@ struct Generator {
     row: VecDeque<Vec<u8>>,
     /// Other steps that are to come soon.
     plan: VecDeque<Step>,
+    /// The answers that commands were chosen for.
+    seen: Seen,
     steps: u64,
     /// A row of the most packets takes long, so that it comes seldom, but soon for the first time.
     next_longest_row: u64,
@@ -130,7 +135,7 @@ impl Generator {
         if let Some(held) = &self.session.held {
             match outcome {
                 Outcome::Book(DONE) => self.home = books::same(&held.book),
-                Outcome::Event(Event::Lost, DONE) if self.rng.chance(300) => {
+                Outcome::Event(Event::Lost, DONE) => {
                     self.plan.push_front(Step::Status(calls::asked(&mut self.rng, held)));
                 }
                 _ => (),
@@ -174,9 +179,9 @@ impl Generator {
         if !legal && self.rng.chance(300) {
             return self.repair();
         }
-        if self.row.len() > 3 && held.connection.gathering.is_none() && self.rng.chance(200) {
-            // The gathering that these packets belonged to has ended.
-            self.row.clear();
+        if held.connection.gathering.is_none() && self.rng.chance(250) {
+            // The gathering that these packets belonged to has ended; one or two of them have shown it.
+            self.row.retain(|packet| packet.first().is_none_or(|head| head >> 2 & 0x03 < CONTINUE));
         }
         let underway = !self.row.is_empty() && held.connection.gathering.is_some();
         let goes_on = if self.in_long_row() { 1000 } else { 930 };
@@ -356,7 +361,8 @@ impl Generator {
         let Some(held) = &self.session.held else {
             return Step::Book(books::valid(rng));
         };
-        let message = payloads::message(rng, held, size);
+        let command = self.seen.rarest(rng, held);
+        let message = payloads::message(rng, command, size);
         let packets = if self.steps >= self.next_longest_row {
             self.next_longest_row += 9000;
             parts::longest_row(rng, size, &message)

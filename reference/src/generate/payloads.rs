@@ -13,8 +13,7 @@ use crate::session::Held;
 pub type Command = (u8, Vec<u8>);
 
 /// A message to be cut: mostly a command, now and then of about as many octets as it may have.
-pub fn message(rng: &mut Rng, held: &Held, size: usize) -> Message {
-    let (signal, mut payload) = command(rng, held);
+pub fn message(rng: &mut Rng, (signal, mut payload): Command, size: usize) -> Message {
     let signal = if rng.chance(if size < 300 { 20 } else { 110 }) {
         // Around the most octets that a message may have; at a small size that takes many packets.
         let signal = rng.pick(&[signal, SECURITY_CONTROL, 0x0E, 0x3F]);
