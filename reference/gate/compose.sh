@@ -9,7 +9,7 @@
 # are the last because they end without a newline. `explain` is left out: its words are not the reference's.
 set -euo pipefail
 
-seed=${1:-20261115} count=${2:-2600}
+seed=${1:-20261115} count=${2:-2500}
 here=$(cd "$(dirname "$0")" && pwd)
 reference=$(dirname "$here")
 root=$(dirname "$reference")
@@ -20,7 +20,7 @@ program=${CARGO_TARGET_DIR:-$reference/target}/release/reference
 
 compose() {
     echo "# Made by reference/gate/compose.sh $seed $count, which says what stands here. The answers are the reference's."
-    for section in start book elements lengths states gathering legal refusals; do
+    for section in start book elements lengths states gathering legal refusals status count; do
         cat "$here/$section.script"
     done
     cat "$reference/examples/table.script"
