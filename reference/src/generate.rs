@@ -29,13 +29,15 @@ const LONG_ROW: u8 = 20;
 
 /// Writes `count` steps; blank lines and comments come on top of these.
 pub fn script(seed: u64, count: u64, out: &mut impl Write) -> io::Result<()> {
+    let mut rng = Rng::new(seed);
+    let plan = opening(&mut rng);
     let mut generator = Generator {
-        rng: Rng::new(seed),
+        rng,
         session: Session::new(),
         home: Vec::new(),
         // At the size and the area of the start this is answered; at a smaller one it is not.
         row: VecDeque::from([[&[0x10, DISCOVER][..], &[0; 500]].concat()]),
-        plan: VecDeque::new(),
+        plan,
         seen: Seen::default(),
         steps: 0,
         next_longest_row: 500,
@@ -48,6 +50,21 @@ pub fn script(seed: u64, count: u64, out: &mut impl Write) -> io::Result<()> {
         out.write_all(b"\n")?;
     }
     Ok(())
+}
+
+/// The first book, before which two more steps are not understood, and a book that reaches past its only record: there
+/// the area is still zero.
+fn opening(rng: &mut Rng) -> VecDeque<Step> {
+    let (book, longer) = books::growing(rng);
+    VecDeque::from([
+        Step::Status(OurSeid(1)),
+        Step::Count(1),
+        Step::Book(book),
+        Step::Rebook(longer),
+        Step::Count(2),
+        Step::Status(OurSeid(2)),
+        Step::Status(OurSeid(1)),
+    ])
 }
 
 #[derive(Clone, Copy)]
@@ -162,7 +179,7 @@ impl Generator {
         if !(size_fits && area_fits && legal) && self.rng.chance(140) {
             return if self.rng.chance(500) { Step::Size(47) } else { Step::Area(63) };
         }
-        if !self.in_long_row() && self.rng.chance(400) {
+        if !self.in_long_row() && self.rng.chance(600) {
             if let Some(step) = self.plan.pop_front() {
                 return step;
             }
@@ -179,7 +196,7 @@ impl Generator {
         if !legal && self.rng.chance(300) {
             return self.repair();
         }
-        if held.connection.gathering.is_none() && self.rng.chance(250) {
+        if held.connection.gathering.is_none() && self.rng.chance(180) {
             // The gathering that these packets belonged to has ended; one or two of them have shown it.
             self.row.retain(|packet| packet.first().is_none_or(|head| head >> 2 & 0x03 < CONTINUE));
         }
@@ -240,13 +257,13 @@ impl Generator {
     /// Some steps are not understood until a book was accepted. Size and area stay as they are at the start.
     fn before_any_book(&mut self) -> Step {
         let rng = &mut self.rng;
-        match rng.below(10) {
-            0 | 1 => Step::Book(books::valid(rng)),
-            2 | 3 => Step::Book(books::damaged(rng)),
-            4 => cuts::cut(rng),
-            5 | 6 => Step::Rebook(books::valid(rng)),
-            7 => Step::Packet(vec![0x10, 0x01]),
-            8 => Step::Record(Record::idle(OurSeid(1))),
+        match rng.below(12) {
+            0..=3 => self.plan.pop_front().unwrap_or(Step::Book(books::valid(rng))),
+            4 | 5 => Step::Book(books::damaged(rng)),
+            6 => cuts::cut(rng),
+            7 | 8 => Step::Rebook(books::valid(rng)),
+            9 => Step::Packet(vec![0x10, 0x01]),
+            10 => Step::Record(Record::idle(OurSeid(1))),
             _ => {
                 let event = rng.pick(&[Event::Up, Event::Down(OurSeid(1)), Event::Lost]);
                 let steps = [
@@ -254,8 +271,6 @@ impl Generator {
                     Step::Event(event),
                     Step::Settings(OurSeid(1)),
                     Step::Delay(OurSeid(1)),
-                    Step::Status(OurSeid(1)),
-                    Step::Count(1),
                     Step::Gathering(None),
                 ];
                 steps[rng.below(steps.len())].clone()
@@ -332,9 +347,15 @@ impl Generator {
         };
         let mut back = [Step::Count(held.book.entries.len() as u8), Step::Rebook(books::same(&held.book))];
         rng.shuffle(&mut back);
+        let front = rng.between(1, held.book.entries.len().max(2) - 1);
+        let behind = &held.connection.records_of(&held.book)[front..];
+        let seid = behind.iter().find(|record| record.channel == Channel::Up).map(|record| record.seid);
+        let seid = seid.unwrap_or(calls::asked(rng, held));
+        let events = [Event::Lost, Event::Lost, Event::Down(seid), Event::Down(seid), Event::Up];
+        self.plan.push_back(Step::Event(rng.pick(&events)));
         self.plan.extend(back);
-        self.plan.push_back(Step::Status(calls::asked(rng, held)));
-        Step::Book(books::front(rng, &held.book))
+        self.plan.push_back(Step::Status(seid));
+        Step::Book(books::front(&held.book, front))
     }
 
     /// A legal gathering; where it owes few packets, these come next.

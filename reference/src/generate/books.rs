@@ -257,11 +257,18 @@ fn draft_of(book: &Book) -> Draft {
     Draft::of(entries.collect())
 }
 
-/// The first entries of a book, all but one at most, as a book.
-pub fn front(rng: &mut Rng, book: &Book) -> Vec<u8> {
+/// A book of one entry, and the same with a second one; the SEIDs are those that come first.
+pub fn growing(rng: &mut Rng) -> (Vec<u8>, Vec<u8>) {
+    let mut draft = Draft::of(vec![entry(rng, 1)]);
+    let short = draft.octets();
+    draft.entries.push(entry(rng, 2));
+    (short, draft.octets())
+}
+
+/// So many of the first entries of a book as a book.
+pub fn front(book: &Book, count: usize) -> Vec<u8> {
     let mut draft = draft_of(book);
-    let most = draft.entries.len().max(2) - 1;
-    draft.entries.truncate(rng.between(1, most));
+    draft.entries.truncate(count);
     draft.octets()
 }
 

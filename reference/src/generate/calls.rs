@@ -52,18 +52,24 @@ pub fn asked(rng: &mut Rng, held: &Held) -> OurSeid {
     let records = held.connection.records_of(&held.book);
     let in_use = records.iter().filter(|record| record.state != State::Idle);
     let in_use: Vec<OurSeid> = in_use.map(|record| record.seid).collect();
+    let known = held.book.entries[rng.below(held.book.entries.len())].seid;
     match rng.below(12) {
-        0 => OurSeid(rng.pick(&[0, 63, 64, 255])),
+        // Six bits of the last two are those of an endpoint.
+        0 => OurSeid(rng.pick(&[0, 63, 64, 255, known.0 | 0x40, known.0 | 0x80])),
         1 => OurSeid(unknown(rng, held)),
         2..=7 if !in_use.is_empty() => rng.pick(&in_use),
-        _ => held.book.entries[rng.below(held.book.entries.len())].seid,
+        _ => known,
     }
 }
 
-/// A count of records: rather one too few or one too many than the right one.
+/// A count of records: rather one too few or one too many than the right one, or with a bit that is too high.
 pub fn count(rng: &mut Rng, held: &Held) -> u8 {
     let entries = held.book.entries.len() as u8;
     let any = rng.octet();
     let shown = held.shown().len() as u8;
-    rng.pick(&[entries - 1, entries - 1, entries + 1, entries + 1, entries, shown, 0, 16, 17, 255, any])
+    match rng.below(3) {
+        0 => rng.pick(&[entries - 1, entries + 1]),
+        1 => entries ^ rng.pick(&[0x10, 0x20, 0x40, 0x80]),
+        _ => rng.pick(&[entries, shown, 0, 16, 17, 255, any]),
+    }
 }

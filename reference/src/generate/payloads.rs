@@ -139,7 +139,7 @@ pub fn payload(rng: &mut Rng, held: &Held, place: usize, signal: u8) -> Vec<u8> 
             vec![our_octet(rng, held, place), tenths[0], tenths[1]]
         }
         SECURITY_CONTROL => {
-            let seid = if rng.chance(200) { unknown(rng, held) << 2 } else { our_octet(rng, held, place) };
+            let seid = if rng.chance(350) { unknown(rng, held) << 2 } else { our_octet(rng, held, place) };
             let length = rng.below(6);
             [vec![seid], rng.octets(length)].concat()
         }
@@ -243,8 +243,10 @@ fn seids(rng: &mut Rng, held: &Held, place: usize, from: State) -> Vec<u8> {
     if rng.chance(150) {
         places.push(places[0]);
     }
-    if rng.chance(200) {
-        places.insert(rng.below(places.len() + 1), rng.below(count));
+    if rng.chance(250) {
+        // Before all others or anywhere.
+        let at = if rng.chance(500) { 0 } else { rng.below(places.len() + 1) };
+        places.insert(at, rng.below(count));
     }
     places.into_iter().map(|place| our_octet(rng, held, place)).collect()
 }

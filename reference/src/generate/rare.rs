@@ -4,8 +4,8 @@ use std::collections::BTreeMap;
 
 use super::payloads::{command, Command};
 use crate::book::OurSeid;
-use crate::commands::{serve, Answer, RECONFIGURE, SET_CONFIGURATION};
-use crate::endpoints::{Channel, State};
+use crate::commands::{serve, Answer, RECONFIGURE, SET_CONFIGURATION, START, SUSPEND};
+use crate::endpoints::{Channel, Record, State};
 use crate::rng::Rng;
 use crate::session::Held;
 
@@ -14,8 +14,16 @@ const CANDIDATES: usize = 8;
 /// How many times as often as others an answer may come that is an accept.
 const ACCEPTS: u64 = 4;
 
-/// A signal, how the first endpoint that the command names stands, and the answer in short.
-type Reached = (u8, Option<(State, Channel)>, Short);
+/// A signal, whom the command names first, and the answer in short.
+type Reached = (u8, Named, Short);
+
+#[derive(PartialEq, Eq, PartialOrd, Ord)]
+enum Named {
+    Nobody,
+    /// A SEID that only the far end has.
+    Far,
+    Ours(State, Channel),
+}
 
 #[derive(PartialEq, Eq, PartialOrd, Ord)]
 enum Short {
@@ -50,24 +58,30 @@ impl Seen {
 /// What the command would reach; the endpoints stay as they are.
 fn reached(held: &Held, (signal, payload): &Command) -> Reached {
     let mut records = held.connection.records_of(&held.book).to_vec();
-    let place = payload.first().and_then(|octet| held.book.place_of(OurSeid(octet >> 2)));
-    let stands = place.map(|place| (records[place].state, records[place].channel));
+    let named = payload.first().map_or(Named::Nobody, |octet| named(held, &records, octet >> 2));
     let short = match serve(&held.book, &mut records, *signal, payload) {
         Answer::Accept(_) => Short::Accept,
-        Answer::Reject(payload) => in_short(*signal, &payload),
+        Answer::Reject(reject) => in_short(*signal, payload, &reject),
         Answer::GeneralReject => Short::GeneralReject,
         Answer::Silent(_) => Short::Silent,
     };
-    (*signal, stands, short)
+    (*signal, named, short)
 }
 
-/// The code, with the category where the reject has one; those above 8 are alike.
-fn in_short(signal: u8, payload: &[u8]) -> Short {
-    match *payload {
-        [category, code] if [SET_CONFIGURATION, RECONFIGURE].contains(&signal) => {
-            Short::Reject(category.min(9), code)
-        }
-        [.., code] => Short::Reject(0, code),
-        [] => Short::Reject(0, 0),
+fn named(held: &Held, records: &[Record], seid: u8) -> Named {
+    match held.book.place_of(OurSeid(seid)) {
+        Some(place) => Named::Ours(records[place].state, records[place].channel),
+        None if seid != 0 && records.iter().any(|record| record.far.0 == seid) => Named::Far,
+        None => Named::Nobody,
+    }
+}
+
+/// The code, with the category where the reject has one (those above 8 are alike), or whether one SEID, two or more were
+/// to be started or suspended.
+fn in_short(signal: u8, payload: &[u8], reject: &[u8]) -> Short {
+    match (signal, reject) {
+        (SET_CONFIGURATION | RECONFIGURE, &[category, code]) => Short::Reject(category.min(9), code),
+        (START | SUSPEND, &[_, code]) => Short::Reject(payload.len().min(3) as u8, code),
+        (_, reject) => Short::Reject(0, reject.last().copied().unwrap_or(0)),
     }
 }

@@ -122,8 +122,8 @@ pub fn odd(rng: &mut Rng, step: &Step, seid: u8) -> Vec<u8> {
         12 | 17 => return edge_of_format(rng, seid).into_bytes(),
         13 => words[0] = rng.pick(&["packet", "cut", "record", "gathering", "size", "explain"]).to_string(),
         14 => {
-            let over = if rng.chance(300) { LONGEST_LINE + 1 - text.len().min(LONGEST_LINE) } else { 0 };
-            let filling = rng.pick(&[" ", "\r", "#", "0"]).repeat(over);
+            let over = if rng.chance(600) { LONGEST_LINE + 1 - text.len().min(LONGEST_LINE) } else { 0 };
+            let filling = rng.pick(&[" ", "\r", "#", "#", "0"]).repeat(over);
             words.last_mut().unwrap().push_str(&filling);
         }
         _ => words.swap(place, 0),
