@@ -179,7 +179,7 @@ impl Generator {
         if !(size_fits && area_fits && legal) && self.rng.chance(140) {
             return if self.rng.chance(500) { Step::Size(47) } else { Step::Area(63) };
         }
-        if !self.in_long_row() && self.rng.chance(600) {
+        if (!self.in_long_row() || !legal) && self.rng.chance(600) {
             if let Some(step) = self.plan.pop_front() {
                 return step;
             }
@@ -193,7 +193,8 @@ impl Generator {
         if !legal && self.rng.chance(80) {
             return calls::any_call(&mut self.rng, held);
         }
-        if !legal && self.rng.chance(300) {
+        // What a plan breaks, it mends.
+        if !legal && self.plan.is_empty() && self.rng.chance(300) {
             return self.repair();
         }
         if held.connection.gathering.is_none() && self.rng.chance(180) {
@@ -338,8 +339,8 @@ impl Generator {
         record
     }
 
-    /// The front of the book in use as a book of its own. Soon the whole book is back, and the count with it: the
-    /// records behind the front are as they were left.
+    /// The front of the book in use as a book of its own, over a fresh connection or over the one that is there. Soon the
+    /// whole book is back, and the count with it: the records behind the front are as they were left.
     fn shorter_book(&mut self) -> Step {
         let rng = &mut self.rng;
         let Some(held) = &self.session.held else {
@@ -352,10 +353,19 @@ impl Generator {
         let seid = behind.iter().find(|record| record.channel == Channel::Up).map(|record| record.seid);
         let seid = seid.unwrap_or(calls::asked(rng, held));
         let events = [Event::Lost, Event::Lost, Event::Down(seid), Event::Down(seid), Event::Up];
+        let fresh = rng.chance(600);
+        if !fresh {
+            self.plan.push_back(Step::Count(front as u8));
+        }
         self.plan.push_back(Step::Event(rng.pick(&events)));
         self.plan.extend(back);
         self.plan.push_back(Step::Status(seid));
-        Step::Book(books::front(&held.book, front))
+        let octets = books::front(&held.book, front);
+        if fresh {
+            Step::Book(octets)
+        } else {
+            Step::Rebook(octets)
+        }
     }
 
     /// A legal gathering; where it owes few packets, these come next.
