@@ -14,7 +14,7 @@ mod text;
 use std::collections::VecDeque;
 use std::io::{self, Write};
 
-use crate::book::{Entry, OurSeid};
+use crate::book::{Entry, OurSeid, MOST_ENTRIES};
 use crate::bridge::{size_is_good, Event, SMALLEST_REPLY_AREA, SMALLEST_SIZE};
 use crate::commands::DISCOVER;
 use crate::endpoints::{Channel, Record};
@@ -35,8 +35,7 @@ pub fn script(seed: u64, count: u64, out: &mut impl Write) -> io::Result<()> {
         rng,
         session: Session::new(),
         home: Vec::new(),
-        // At the size and the area of the start this is answered; at a smaller one it is not.
-        row: VecDeque::from([[&[0x10, DISCOVER][..], &[0; 500]].concat()]),
+        row: VecDeque::new(),
         plan,
         seen: Seen::default(),
         steps: 0,
@@ -52,19 +51,38 @@ pub fn script(seed: u64, count: u64, out: &mut impl Write) -> io::Result<()> {
     Ok(())
 }
 
-/// The first book, before which two more steps are not understood, and a book that reaches past its only record: there
-/// the area is still zero.
+/// The first book, before which two more steps are not understood; a packet that is answered at the size and the area of
+/// the start, and not at smaller ones; and a book that reaches past its only record, where the saved area is still zero.
 fn opening(rng: &mut Rng) -> VecDeque<Step> {
     let (book, longer) = books::growing(rng);
     VecDeque::from([
         Step::Status(OurSeid(1)),
         Step::Count(1),
         Step::Book(book),
+        Step::Packet([&[0x10, DISCOVER][..], &[0; 500]].concat()),
         Step::Rebook(longer),
         Step::Count(2),
         Step::Status(OurSeid(2)),
         Step::Status(OurSeid(1)),
     ])
+}
+
+/// The front of the book in use as a book of its own, over a fresh connection or over the one that is there. Then the
+/// whole book is back, and the count with it: the records behind the front are as they were left.
+fn shorter_book(rng: &mut Rng, held: &Held) -> [Step; 6] {
+    let entries = held.book.entries.len();
+    let front = rng.between(1, entries.max(2) - 1);
+    let octets = books::front(&held.book, front);
+    let shorter = if rng.chance(600) { Step::Book(octets) } else { Step::Rebook(octets) };
+    let behind = &held.connection.records_of(&held.book)[front..];
+    let (seid, event) = match behind.iter().find(|record| record.channel == Channel::Up) {
+        Some(record) => (record.seid, rng.pick(&[Event::Down(record.seid), Event::Lost])),
+        None => (calls::asked(rng, held), rng.pick(&[Event::Up, Event::Lost])),
+    };
+    let mut back = [Step::Count(entries as u8), Step::Rebook(books::same(&held.book))];
+    rng.shuffle(&mut back);
+    let [first, second] = back;
+    [shorter, Step::Count(front as u8), Step::Event(event), first, second, Step::Status(seid)]
 }
 
 #[derive(Clone, Copy)]
@@ -151,7 +169,13 @@ impl Generator {
         let outcome = self.session.line(&line);
         if let Some(held) = &self.session.held {
             match outcome {
-                Outcome::Book(DONE) => self.home = books::same(&held.book),
+                Outcome::Book(DONE) => {
+                    self.home = books::same(&held.book);
+                    if held.book.entries.len() == MOST_ENTRIES && self.plan.is_empty() {
+                        // All of the area's room is in use.
+                        self.plan.extend(shorter_book(&mut self.rng, held));
+                    }
+                }
                 Outcome::Event(Event::Lost, DONE) => {
                     self.plan.push_front(Step::Status(calls::asked(&mut self.rng, held)));
                 }
@@ -245,7 +269,11 @@ impl Generator {
             Choice::RelatedRebook => Step::Rebook(books::related(rng, &held.book)),
             Choice::DamagedRebook => Step::Rebook(books::damaged(rng)),
             Choice::ValidBook => Step::Book(books::valid(rng)),
-            Choice::ShorterBook => self.shorter_book(),
+            Choice::ShorterBook => {
+                let [first, rest @ ..] = shorter_book(rng, held);
+                self.plan.extend(rest);
+                first
+            }
             Choice::DamagedBook => Step::Book(books::damaged(rng)),
             Choice::Size => Step::Size(self.any_size()),
             Choice::Area => Step::Area(rng.pick(&[0, 1, 63, 63, 63, 64, 65, 65535])),
@@ -337,35 +365,6 @@ impl Generator {
             _ => (),
         }
         record
-    }
-
-    /// The front of the book in use as a book of its own, over a fresh connection or over the one that is there. Soon the
-    /// whole book is back, and the count with it: the records behind the front are as they were left.
-    fn shorter_book(&mut self) -> Step {
-        let rng = &mut self.rng;
-        let Some(held) = &self.session.held else {
-            return Step::Book(books::valid(rng));
-        };
-        let mut back = [Step::Count(held.book.entries.len() as u8), Step::Rebook(books::same(&held.book))];
-        rng.shuffle(&mut back);
-        let front = rng.between(1, held.book.entries.len().max(2) - 1);
-        let behind = &held.connection.records_of(&held.book)[front..];
-        let seid = behind.iter().find(|record| record.channel == Channel::Up).map(|record| record.seid);
-        let seid = seid.unwrap_or(calls::asked(rng, held));
-        let events = [Event::Lost, Event::Lost, Event::Down(seid), Event::Down(seid), Event::Up];
-        let fresh = rng.chance(600);
-        if !fresh {
-            self.plan.push_back(Step::Count(front as u8));
-        }
-        self.plan.push_back(Step::Event(rng.pick(&events)));
-        self.plan.extend(back);
-        self.plan.push_back(Step::Status(seid));
-        let octets = books::front(&held.book, front);
-        if fresh {
-            Step::Book(octets)
-        } else {
-            Step::Rebook(octets)
-        }
     }
 
     /// A legal gathering; where it owes few packets, these come next.
