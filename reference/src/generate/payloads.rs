@@ -200,7 +200,13 @@ fn set_configuration(rng: &mut Rng, held: &Held, place: usize) -> Vec<u8> {
     let offered = &held.book.entries[place].offered;
     // With an endpoint in use a wrong far SEID shows which counts first.
     let wrong = if state(held, place) == State::Idle { 90 } else { 400 };
-    let far = if rng.chance(wrong) { rng.pick(&[0, 63]) } else { far_seid(rng) };
+    // Two endpoints may have the same far SEID (DESIGN, open point 8).
+    let used = held.connection.records_of(&held.book).iter().map(|record| record.far.0).find(|&far| far != 0);
+    let far = match used {
+        _ if rng.chance(wrong) => rng.pick(&[0, 63]),
+        Some(far) if rng.chance(250) => far,
+        _ => far_seid(rng),
+    };
     let list = lists::configuration(rng, offered);
     let list = lists::as_sent(rng, list);
     let head = vec![our_octet(rng, held, place), far << 2 | reserved(rng)];
