@@ -1,14 +1,19 @@
 #!/bin/bash
-# Shows that a random script tells the reference from each wrong edit of it.
+# Shows that a script tells the reference from each wrong edit of it.
 #
-#   mutants.sh SEED COUNT [EDIT..]
+#   mutants.sh SEED COUNT [EDIT..]        a random script of COUNT steps
+#   mutants.sh --script FILE [EDIT..]     the script in FILE
 #
 # An edit (mutants/*.edit, all of them where none is named) holds a comment that says what is wrong, then for each
 # place `file:`, `old:` and `new:`; a \n in these stands for the end of a line. The old text must occur exactly once.
 set -euo pipefail
 
-[ $# -ge 2 ] || { echo "usage: mutants.sh SEED COUNT [EDIT..]" >&2; exit 2; }
-seed=$1 count=$2
+if [ $# -lt 2 ]; then
+    echo "usage: mutants.sh SEED COUNT [EDIT..]" >&2
+    echo "       mutants.sh --script FILE [EDIT..]" >&2
+    exit 2
+fi
+first=$1 second=$2
 shift 2
 
 home=$(cd "$(dirname "$0")" && pwd)
@@ -16,7 +21,7 @@ work=$(mktemp -d)
 trap 'rm -rf "$work"' EXIT
 
 # Fast builds; what the program answers does not depend on these.
-export CARGO_TARGET_DIR=$work/target CARGO_INCREMENTAL=1 CARGO_PROFILE_RELEASE_OPT_LEVEL=1
+export CARGO_TARGET_DIR=$work/target CARGO_INCREMENTAL=1 CARGO_PROFILE_RELEASE_OPT_LEVEL=0
 
 copy() {
     rm -rf "$work/package"
@@ -26,7 +31,7 @@ copy() {
 
 build() {
     rm -f "$work/target/release/reference"
-    (cd "$work/package" && cargo build --release --offline --quiet 2>"$work/messages")
+    (cd "$work/package" && cargo build --release --bin reference --offline --quiet 2>"$work/messages")
 }
 
 # Puts `new` in the place of `old` in a file of the copied package.
@@ -62,7 +67,11 @@ answers() {
 copy
 build
 cp "$work/target/release/reference" "$work/good"
-"$work/good" --generate "$seed" "$count" >"$work/script"
+if [ "$first" = --script ]; then
+    cp "$second" "$work/script"
+else
+    "$work/good" --generate "$first" "$second" >"$work/script"
+fi
 answers "$work/good" "$work/expected"
 
 [ $# -gt 0 ] || set -- "$home"/mutants/*.edit

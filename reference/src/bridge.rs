@@ -3,7 +3,7 @@
 
 use crate::book::{Book, OurSeid};
 use crate::commands::{serve, AbortFlaw, Answer};
-use crate::endpoints::{Channel, Connection, Record};
+use crate::endpoints::{Channel, Connection, FarSeid, Record, State};
 use crate::numbers::*;
 use crate::packets::{self, take, Flaw, Message, Taken, LONGEST_PAYLOAD};
 
@@ -62,8 +62,8 @@ pub fn packet(
     if message.message_type != packets::COMMAND {
         return PacketAnswer::Silent(Silence::NotACommand);
     }
-    let (message_type, payload) = match serve(book, &mut connection.records, message.signal, &message.payload)
-    {
+    let records = connection.records_of_mut(book);
+    let (message_type, payload) = match serve(book, records, message.signal, &message.payload) {
         Answer::Accept(payload) => (packets::ACCEPT, payload),
         Answer::Reject(payload) => (packets::REJECT, payload),
         Answer::GeneralReject => (packets::GENERAL_REJECT, Vec::new()),
@@ -77,18 +77,20 @@ pub fn event(book: &Book, connection: &mut Connection, event: Event) -> Number {
     if !connection.is_legal(book) {
         return NOT_LEGAL;
     }
+    let records = connection.records_of_mut(book);
     match event {
-        Event::Up => channel_up(connection),
-        Event::Down(seid) => channel_down(connection, seid),
+        Event::Up => channel_up(records),
+        Event::Down(seid) => channel_down(records, seid),
         Event::Lost => {
-            *connection = Connection::fresh(book);
+            records.iter_mut().for_each(Record::become_idle);
+            connection.gathering = None;
             DONE
         }
     }
 }
 
-fn channel_up(connection: &mut Connection) -> Number {
-    match connection.awaiting() {
+fn channel_up(records: &mut [Record]) -> Number {
+    match records.iter_mut().find(|record| record.channel == Channel::Awaited) {
         Some(record) => {
             record.channel = Channel::Up;
             DONE
@@ -98,9 +100,8 @@ fn channel_up(connection: &mut Connection) -> Number {
 }
 
 /// An endpoint that only awaits its channel has none (DESIGN, open point 10).
-fn channel_down(connection: &mut Connection, seid: OurSeid) -> Number {
-    let found = connection.records.iter_mut().find(|record| record.seid == seid);
-    match found {
+fn channel_down(records: &mut [Record], seid: OurSeid) -> Number {
+    match records.iter_mut().find(|record| record.seid == seid) {
         Some(record) if record.channel == Channel::Up => {
             record.become_idle();
             DONE
@@ -132,6 +133,22 @@ pub fn settings<'a>(book: &'a Book, connection: &'a Connection, seid: OurSeid) -
 pub fn delay(book: &Book, connection: &Connection, seid: OurSeid) -> Result<Option<u16>, Number> {
     let (record, _) = asked_about(book, connection, seid)?;
     Ok(record.delay)
+}
+
+/// How an endpoint stands.
+#[derive(Clone, Copy)]
+pub struct Status {
+    pub state: State,
+    pub channel: Channel,
+    pub far: FarSeid,
+}
+
+/// What a refused status question shows.
+pub const NO_STATUS: Status = Status { state: State::Idle, channel: Channel::None, far: FarSeid::NONE };
+
+pub fn status(book: &Book, connection: &Connection, seid: OurSeid) -> Result<Status, Number> {
+    let (record, _) = asked_about(book, connection, seid)?;
+    Ok(Status { state: record.state, channel: record.channel, far: record.far })
 }
 
 /// One packet of a message. Order: 8, 11, 9.

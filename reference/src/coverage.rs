@@ -1,6 +1,7 @@
 //! What a script reaches, counted: each command's accepts and rejects, each call's refusals, the reasons of silence,
 //! and the states that endpoints entered. What could be reached and was not is shown as 0 and listed at the end.
 
+use std::cmp::Ordering;
 use std::collections::BTreeMap;
 use std::io::{self, BufRead, Write};
 
@@ -8,10 +9,10 @@ use crate::bridge::{Event, PacketAnswer, Silence};
 use crate::commands::AbortFlaw;
 use crate::endpoints::{Channel, State};
 use crate::input::each_line;
-use crate::numbers::Number;
+use crate::numbers::{Number, DONE, NOT_LEGAL};
 use crate::packets::{Flaw, Message, ACCEPT, GENERAL_REJECT};
 use crate::script::{channel_name, state_name};
-use crate::session::{Outcome, Session};
+use crate::session::{Held, Outcome, Session};
 
 /// Each row's name in its group, in the order in which the table shows them.
 type Row = (&'static str, String);
@@ -27,12 +28,20 @@ pub fn table(input: impl BufRead, out: &mut impl Write) -> io::Result<()> {
         coverage.add(row, 0);
     }
     let mut session = Session::new();
+    let mut lost = false;
     each_line(input, |line| {
         let before = standing(&session);
         let outcome = session.line(line);
         let after = standing(&session);
         coverage.outcome(&outcome);
         coverage.moves(&before, &after);
+        if let Some(held) = &session.held {
+            coverage.area(held, &outcome);
+        }
+        if let (Outcome::Status(Ok(_)), true) = (&outcome, lost) {
+            coverage.count("questions", "status right after a loss");
+        }
+        lost = matches!(outcome, Outcome::Event(Event::Lost, DONE));
         if let Outcome::Packet(PacketAnswer::Reply(reply)) = &outcome {
             coverage.reply(reply, before != after);
         }
@@ -44,7 +53,7 @@ pub fn table(input: impl BufRead, out: &mut impl Write) -> io::Result<()> {
 type Standing = Vec<(u8, State, Channel)>;
 
 fn standing(session: &Session) -> Standing {
-    let records = session.held.iter().flat_map(|held| &held.connection.records);
+    let records = session.held.iter().flat_map(Held::shown);
     records.map(|record| (record.seid.0, record.state, record.channel)).collect()
 }
 
@@ -86,6 +95,13 @@ impl Coverage {
                     Err(_) => (),
                 }
             }
+            Outcome::Status(answer) => {
+                self.call("status", answer.err().unwrap_or(0));
+                if let Ok(status) = answer {
+                    let name = format!("{} {}", state_name(status.state), channel_name(status.channel));
+                    self.count("status", name);
+                }
+            }
             Outcome::Cut(answer) => self.call("cut", answer.as_ref().err().copied().unwrap_or(0)),
             Outcome::States(_) => self.count("questions", "states"),
             Outcome::Skipped | Outcome::NotUnderstood | Outcome::Quiet => (),
@@ -94,6 +110,27 @@ impl Coverage {
 
     fn call(&mut self, call: &str, number: Number) {
         self.count("calls", format!("{call} {number}"));
+    }
+
+    /// How the saved count, the book and the records that are shown agree in a call that is given all three.
+    fn area(&mut self, held: &Held, outcome: &Outcome) {
+        let number = match outcome {
+            Outcome::Packet(PacketAnswer::Refused(number)) | Outcome::Event(_, number) => *number,
+            Outcome::Packet(_) => DONE,
+            Outcome::Settings(answer) => answer.as_ref().err().copied().unwrap_or(DONE),
+            Outcome::Delay(answer) => answer.err().unwrap_or(DONE),
+            Outcome::Status(answer) => answer.err().unwrap_or(DONE),
+            _ => return,
+        };
+        let entries = held.book.entries.len();
+        let agrees = match (number, usize::from(held.connection.count).cmp(&entries)) {
+            (NOT_LEGAL, Ordering::Less) => FEWER_COUNTED,
+            (NOT_LEGAL, Ordering::Greater) => MORE_COUNTED,
+            (DONE, _) if entries > held.shown().len() => LEGAL_BEHIND,
+            (DONE, _) if entries < held.shown().len() => LEGAL_FEWER,
+            _ => return,
+        };
+        self.count("area", agrees);
     }
 
     fn moves(&mut self, before: &Standing, after: &Standing) {
@@ -143,6 +180,11 @@ impl Coverage {
         Ok(())
     }
 }
+
+const FEWER_COUNTED: &str = "12, and the count is below the book's";
+const MORE_COUNTED: &str = "12, and the count is above the book's";
+const LEGAL_BEHIND: &str = "legal, with records behind those shown";
+const LEGAL_FEWER: &str = "legal, with fewer records than those shown";
 
 fn command_name(signal: u8) -> &'static str {
     const NAMES: [&str; 14] = [
@@ -196,6 +238,7 @@ fn reachable() -> Vec<Row> {
         ("lost", &[0, 12]),
         ("settings", &[0, 10, 12]),
         ("delay", &[0, 10, 12]),
+        ("status", &[0, 10, 12]),
         ("cut", &[0, 8, 9, 11]),
     ] {
         rows.extend(numbers.iter().map(|number| ("calls", format!("{call} {number}"))));
@@ -218,18 +261,29 @@ fn reachable() -> Vec<Row> {
     for silence in silences.into_iter().chain(flaws.map(Silence::Ended)) {
         rows.push(("silence", reason(silence).to_string()));
     }
-    for name in [
-        "idle none",
-        "configured none",
-        "open awaited",
-        "open up",
-        "streaming up",
-        "closing up",
-        "aborting up",
-    ] {
-        rows.push(("entered", name.to_string()));
+    for group in ["entered", "status"] {
+        for name in [
+            "idle none",
+            "configured none",
+            "open awaited",
+            "open up",
+            "streaming up",
+            "closing up",
+            "aborting up",
+        ] {
+            rows.push((group, name.to_string()));
+        }
     }
-    for name in ["states", "delay reported", "delay unreported", "replies of 47 to 64 octets"] {
+    for name in [FEWER_COUNTED, MORE_COUNTED, LEGAL_BEHIND, LEGAL_FEWER] {
+        rows.push(("area", name.to_string()));
+    }
+    for name in [
+        "states",
+        "delay reported",
+        "delay unreported",
+        "status right after a loss",
+        "replies of 47 to 64 octets",
+    ] {
         rows.push(("questions", name.to_string()));
     }
     rows

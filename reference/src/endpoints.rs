@@ -1,7 +1,7 @@
 //! The saved connection: one record per endpoint, what moves it, and when it is legal: document 01, "What the host
 //! is told" (legality), "Commands" (where each goes) and "Link events".
 
-use crate::book::{Book, Entry, OurSeid, HIGHEST_SEID};
+use crate::book::{Book, Entry, OurSeid, HIGHEST_SEID, MOST_ENTRIES};
 use crate::elements::{has, is_storable, DELAY};
 use crate::packets::Gathering;
 
@@ -46,7 +46,7 @@ pub struct Record {
 }
 
 impl Record {
-    pub fn idle(seid: OurSeid) -> Record {
+    pub const fn idle(seid: OurSeid) -> Record {
         Record {
             seid,
             state: State::Idle,
@@ -115,28 +115,45 @@ impl Record {
     }
 }
 
+/// The saved area. A book has the records at its front, one an entry; those behind stay as they are.
 #[derive(Clone, PartialEq, Eq, Debug)]
 pub struct Connection {
-    pub records: Vec<Record>,
+    /// How many records there are, as it was saved; it need not be true.
+    pub count: u8,
     pub gathering: Option<Gathering>,
+    pub records: [Record; MOST_ENTRIES],
 }
 
 impl Connection {
-    pub fn fresh(book: &Book) -> Connection {
-        Connection {
-            records: book.entries.iter().map(|entry| Record::idle(entry.seid)).collect(),
-            gathering: None,
+    /// An area of zeros, which no book finds legal: SEID 0 is nobody's.
+    pub fn zero() -> Connection {
+        let records = [const { Record::idle(OurSeid(0)) }; MOST_ENTRIES];
+        Connection { count: 0, gathering: None, records }
+    }
+
+    /// A fresh connection for this book.
+    pub fn refresh(&mut self, book: &Book) {
+        self.count = book.entries.len() as u8;
+        self.gathering = None;
+        for (record, entry) in self.records.iter_mut().zip(&book.entries) {
+            *record = Record::idle(entry.seid);
         }
     }
 
-    pub fn awaiting(&mut self) -> Option<&mut Record> {
-        self.records.iter_mut().find(|record| record.channel == Channel::Awaited)
+    /// The records that this book has.
+    pub fn records_of(&self, book: &Book) -> &[Record] {
+        &self.records[..book.entries.len()]
+    }
+
+    pub fn records_of_mut(&mut self, book: &Book) -> &mut [Record] {
+        &mut self.records[..book.entries.len()]
     }
 
     pub fn is_legal(&self, book: &Book) -> bool {
-        self.records.len() == book.entries.len()
-            && self.records.iter().zip(&book.entries).all(|(record, entry)| record.is_legal(entry))
-            && self.records.iter().filter(|record| record.channel == Channel::Awaited).count() <= 1
+        let records = self.records_of(book);
+        usize::from(self.count) == book.entries.len()
+            && records.iter().zip(&book.entries).all(|(record, entry)| record.is_legal(entry))
+            && records.iter().filter(|record| record.channel == Channel::Awaited).count() <= 1
             && self.gathering.as_ref().is_none_or(Gathering::is_legal)
     }
 }

@@ -7,32 +7,37 @@ mod cuts;
 mod lists;
 mod parts;
 mod payloads;
+mod rare;
 mod saved;
 mod text;
 
 use std::collections::VecDeque;
 use std::io::{self, Write};
 
-use crate::book::{Entry, OurSeid};
+use crate::book::{Entry, OurSeid, MOST_ENTRIES};
 use crate::bridge::{size_is_good, Event, SMALLEST_REPLY_AREA, SMALLEST_SIZE};
 use crate::commands::DISCOVER;
 use crate::endpoints::{Channel, Record};
 use crate::numbers::DONE;
-use crate::packets::{Gathering, Message};
+use crate::packets::{Gathering, Message, CONTINUE};
 use crate::rng::Rng;
 use crate::script::Step;
-use crate::session::{Outcome, Session};
+use crate::session::{Held, Outcome, Session};
+use rare::Seen;
 
 const LONG_ROW: u8 = 20;
 
 /// Writes `count` steps; blank lines and comments come on top of these.
 pub fn script(seed: u64, count: u64, out: &mut impl Write) -> io::Result<()> {
+    let mut rng = Rng::new(seed);
+    let plan = opening(&mut rng);
     let mut generator = Generator {
-        rng: Rng::new(seed),
+        rng,
         session: Session::new(),
         home: Vec::new(),
-        // At the size and the area of the start this is answered; at a smaller one it is not.
-        row: VecDeque::from([[&[0x10, DISCOVER][..], &[0; 500]].concat()]),
+        row: VecDeque::new(),
+        plan,
+        seen: Seen::default(),
         steps: 0,
         next_longest_row: 500,
     };
@@ -46,6 +51,40 @@ pub fn script(seed: u64, count: u64, out: &mut impl Write) -> io::Result<()> {
     Ok(())
 }
 
+/// The first book, before which two more steps are not understood; a packet that is answered at the size and the area of
+/// the start, and not at smaller ones; and a book that reaches past its only record, where the saved area is still zero.
+fn opening(rng: &mut Rng) -> VecDeque<Step> {
+    let (book, longer) = books::growing(rng);
+    VecDeque::from([
+        Step::Status(OurSeid(1)),
+        Step::Count(1),
+        Step::Book(book),
+        Step::Packet([&[0x10, DISCOVER][..], &[0; 500]].concat()),
+        Step::Rebook(longer),
+        Step::Count(2),
+        Step::Status(OurSeid(2)),
+        Step::Status(OurSeid(1)),
+    ])
+}
+
+/// The front of the book in use as a book of its own, over a fresh connection or over the one that is there. Then the
+/// whole book is back, and the count with it: the records behind the front are as they were left.
+fn shorter_book(rng: &mut Rng, held: &Held) -> [Step; 6] {
+    let entries = held.book.entries.len();
+    let front = rng.between(1, entries.max(2) - 1);
+    let octets = books::front(&held.book, front);
+    let shorter = if rng.chance(600) { Step::Book(octets) } else { Step::Rebook(octets) };
+    let behind = &held.connection.records_of(&held.book)[front..];
+    let (seid, event) = match behind.iter().find(|record| record.channel == Channel::Up) {
+        Some(record) => (record.seid, rng.pick(&[Event::Down(record.seid), Event::Lost])),
+        None => (calls::asked(rng, held), rng.pick(&[Event::Up, Event::Lost])),
+    };
+    let mut back = [Step::Count(entries as u8), Step::Rebook(books::same(&held.book))];
+    rng.shuffle(&mut back);
+    let [first, second] = back;
+    [shorter, Step::Count(front as u8), Step::Event(event), first, second, Step::Status(seid)]
+}
+
 #[derive(Clone, Copy)]
 enum Choice {
     Message,
@@ -53,6 +92,8 @@ enum Choice {
     States,
     Settings,
     Delay,
+    Status,
+    Count,
     LegalRecord,
     DamagedRecord,
     LegalGathering,
@@ -61,6 +102,7 @@ enum Choice {
     RelatedRebook,
     DamagedRebook,
     ValidBook,
+    ShorterBook,
     DamagedBook,
     Size,
     Area,
@@ -70,21 +112,24 @@ enum Choice {
 }
 
 /// How often each kind of step is chosen, by weight.
-const CHOICES: [(Choice, usize); 19] = [
+const CHOICES: [(Choice, usize); 22] = [
     (Choice::Message, 500),
     (Choice::Event, 80),
     (Choice::States, 60),
     (Choice::Settings, 40),
     (Choice::Delay, 40),
+    (Choice::Status, 45),
+    (Choice::Count, 14),
     (Choice::LegalRecord, 30),
-    (Choice::DamagedRecord, 28),
-    (Choice::LegalGathering, 25),
-    (Choice::DamagedGathering, 14),
+    (Choice::DamagedRecord, 34),
+    (Choice::LegalGathering, 20),
+    (Choice::DamagedGathering, 26),
     (Choice::NoGathering, 5),
     (Choice::RelatedRebook, 14),
-    (Choice::DamagedRebook, 9),
+    (Choice::DamagedRebook, 12),
     (Choice::ValidBook, 6),
-    (Choice::DamagedBook, 22),
+    (Choice::ShorterBook, 8),
+    (Choice::DamagedBook, 40),
     (Choice::Size, 25),
     (Choice::Area, 12),
     (Choice::Cut, 70),
@@ -99,6 +144,10 @@ struct Generator {
     home: Vec<u8>,
     /// Packets that are to come next.
     row: VecDeque<Vec<u8>>,
+    /// Other steps that are to come soon.
+    plan: VecDeque<Step>,
+    /// The answers that commands were chosen for.
+    seen: Seen,
     steps: u64,
     /// A row of the most packets takes long, so that it comes seldom, but soon for the first time.
     next_longest_row: u64,
@@ -109,7 +158,7 @@ impl Generator {
         self.steps += 1;
         let line = if !self.in_long_row() && self.rng.chance(35) {
             let step = self.free_step();
-            let saved = self.session.held.iter().flat_map(|held| &held.connection.records);
+            let saved = self.session.held.iter().flat_map(Held::shown);
             let seids: Vec<u8> = saved.map(|record| record.seid.0).chain([1]).collect();
             let seid = self.rng.pick(&seids);
             text::odd(&mut self.rng, &step, seid)
@@ -118,8 +167,20 @@ impl Generator {
             text::written(&mut self.rng, &step)
         };
         let outcome = self.session.line(&line);
-        if let (Outcome::Book(DONE), Some(held)) = (outcome, &self.session.held) {
-            self.home = books::same(&held.book);
+        if let Some(held) = &self.session.held {
+            match outcome {
+                Outcome::Book(DONE) => {
+                    self.home = books::same(&held.book);
+                    if held.book.entries.len() == MOST_ENTRIES && self.plan.is_empty() {
+                        // All of the area's room is in use.
+                        self.plan.extend(shorter_book(&mut self.rng, held));
+                    }
+                }
+                Outcome::Event(Event::Lost, DONE) => {
+                    self.plan.push_front(Step::Status(calls::asked(&mut self.rng, held)));
+                }
+                _ => (),
+            }
         }
         line
     }
@@ -139,8 +200,13 @@ impl Generator {
         let area_fits = usize::from(self.session.area) >= SMALLEST_REPLY_AREA;
         let legal = held.connection.is_legal(&held.book);
         // Two or three reasons to refuse a packet at once show which counts first.
-        if !(size_fits && area_fits && legal) && self.rng.chance(80) {
+        if !(size_fits && area_fits && legal) && self.rng.chance(140) {
             return if self.rng.chance(500) { Step::Size(47) } else { Step::Area(63) };
+        }
+        if (!self.in_long_row() || !legal) && self.rng.chance(600) {
+            if let Some(step) = self.plan.pop_front() {
+                return step;
+            }
         }
         if !size_fits && self.rng.chance(400) {
             return Step::Size(self.good_size());
@@ -151,18 +217,22 @@ impl Generator {
         if !legal && self.rng.chance(80) {
             return calls::any_call(&mut self.rng, held);
         }
-        if !legal && self.rng.chance(300) {
+        // What a plan breaks, it mends.
+        if !legal && self.plan.is_empty() && self.rng.chance(300) {
             return self.repair();
         }
-        if self.row.len() > 3 && held.connection.gathering.is_none() && self.rng.chance(200) {
-            // The gathering that these packets belonged to has ended.
-            self.row.clear();
+        if held.connection.gathering.is_none() && self.rng.chance(180) {
+            // The gathering that these packets belonged to has ended; one or two of them have shown it.
+            self.row.retain(|packet| packet.first().is_none_or(|head| head >> 2 & 0x03 < CONTINUE));
         }
         let underway = !self.row.is_empty() && held.connection.gathering.is_some();
         let goes_on = if self.in_long_row() { 1000 } else { 930 };
         if underway && !self.in_long_row() && self.rng.chance(10) {
             // The packets that come after this belong to nothing.
             return Step::Event(Event::Lost);
+        }
+        if underway && !self.in_long_row() && area_fits && self.rng.chance(25) {
+            return Step::Area(63);
         }
         if !self.row.is_empty() && self.rng.chance(goes_on) {
             // A refused packet is sent again: it did not end the gathering.
@@ -189,6 +259,8 @@ impl Generator {
             Choice::States => Step::States,
             Choice::Settings => Step::Settings(calls::asked(rng, held)),
             Choice::Delay => Step::Delay(calls::asked(rng, held)),
+            Choice::Status => Step::Status(calls::asked(rng, held)),
+            Choice::Count => Step::Count(calls::count(rng, held)),
             Choice::LegalRecord => Step::Record(self.record(saved::legal_record)),
             Choice::DamagedRecord => Step::Record(self.record(saved::damaged_record)),
             Choice::LegalGathering => self.gathering(),
@@ -197,6 +269,11 @@ impl Generator {
             Choice::RelatedRebook => Step::Rebook(books::related(rng, &held.book)),
             Choice::DamagedRebook => Step::Rebook(books::damaged(rng)),
             Choice::ValidBook => Step::Book(books::valid(rng)),
+            Choice::ShorterBook => {
+                let [first, rest @ ..] = shorter_book(rng, held);
+                self.plan.extend(rest);
+                first
+            }
             Choice::DamagedBook => Step::Book(books::damaged(rng)),
             Choice::Size => Step::Size(self.any_size()),
             Choice::Area => Step::Area(rng.pick(&[0, 1, 63, 63, 63, 64, 65, 65535])),
@@ -209,13 +286,13 @@ impl Generator {
     /// Some steps are not understood until a book was accepted. Size and area stay as they are at the start.
     fn before_any_book(&mut self) -> Step {
         let rng = &mut self.rng;
-        match rng.below(10) {
-            0 | 1 => Step::Book(books::valid(rng)),
-            2 | 3 => Step::Book(books::damaged(rng)),
-            4 => cuts::cut(rng),
-            5 | 6 => Step::Rebook(books::valid(rng)),
-            7 => Step::Packet(vec![0x10, 0x01]),
-            8 => Step::Record(Record::idle(OurSeid(1))),
+        match rng.below(12) {
+            0..=3 => self.plan.pop_front().unwrap_or(Step::Book(books::valid(rng))),
+            4 | 5 => Step::Book(books::damaged(rng)),
+            6 => cuts::cut(rng),
+            7 | 8 => Step::Rebook(books::valid(rng)),
+            9 => Step::Packet(vec![0x10, 0x01]),
+            10 => Step::Record(Record::idle(OurSeid(1))),
             _ => {
                 let event = rng.pick(&[Event::Up, Event::Down(OurSeid(1)), Event::Lost]);
                 let steps = [
@@ -245,12 +322,16 @@ impl Generator {
         if connection.gathering.as_ref().is_some_and(|gathering| !gathering.is_legal()) {
             return if rng.chance(500) { Step::Gathering(None) } else { self.gathering() };
         }
-        let records = &connection.records;
-        let pairs = || records.iter().zip(&held.book.entries);
+        let entries = held.book.entries.len();
+        let counted = usize::from(connection.count);
+        if counted != entries && (counted != held.shown().len() || rng.chance(500)) {
+            return Step::Count(entries as u8);
+        }
+        let pairs = || connection.records_of(&held.book).iter().zip(&held.book.entries);
         let same_seids = pairs().all(|(record, entry)| record.seid == entry.seid);
-        if records.len() != held.book.entries.len() || !same_seids {
+        if counted != entries || !same_seids {
             // A record that the book has no entry for can be overwritten all the same.
-            let strange = records.iter().find(|record| held.book.place_of(record.seid).is_none());
+            let strange = held.shown().iter().find(|record| held.book.place_of(record.seid).is_none());
             return match strange {
                 Some(record) if rng.chance(400) => Step::Record(Record::idle(record.seid)),
                 _ => Step::Rebook(self.home.clone()),
@@ -261,6 +342,10 @@ impl Generator {
             .find(|(record, entry)| !record.is_legal(entry))
             .or_else(|| pairs().find(|(record, _)| awaits(record)));
         match at_fault {
+            // A record behind those shown cannot be overwritten.
+            Some((_, entry)) if held.shown().iter().all(|record| record.seid != entry.seid) => {
+                Step::Rebook(self.home.clone())
+            }
             Some((_, entry)) if rng.chance(500) => Step::Record(saved::legal_record(rng, entry)),
             Some((_, entry)) => Step::Record(Record::idle(entry.seid)),
             None => Step::States,
@@ -275,7 +360,7 @@ impl Generator {
         };
         let place = self.rng.below(held.book.entries.len());
         let mut record = make(&mut self.rng, &held.book.entries[place]);
-        match held.connection.records.get(place) {
+        match held.shown().get(place) {
             Some(saved) if self.rng.chance(900) => record.seid = saved.seid,
             _ => (),
         }
@@ -306,7 +391,8 @@ impl Generator {
         let Some(held) = &self.session.held else {
             return Step::Book(books::valid(rng));
         };
-        let message = payloads::message(rng, held, size);
+        let command = self.seen.rarest(rng, held);
+        let message = payloads::message(rng, command, size);
         let packets = if self.steps >= self.next_longest_row {
             self.next_longest_row += 9000;
             parts::longest_row(rng, size, &message)

@@ -3,7 +3,7 @@
 use std::io::{self, Write};
 
 use crate::book::{self, Book};
-use crate::bridge::{self, Event, PacketAnswer};
+use crate::bridge::{self, Event, PacketAnswer, Status, NO_STATUS};
 use crate::endpoints::{Connection, Record};
 use crate::numbers::{Number, DONE};
 use crate::packets::packet_count;
@@ -22,6 +22,7 @@ pub enum Outcome {
     Event(Event, Number),
     Settings(Result<Vec<u8>, Number>),
     Delay(Result<Option<u16>, Number>),
+    Status(Result<Status, Number>),
     States(Vec<Record>),
     Cut(Result<Vec<u8>, Number>),
 }
@@ -30,6 +31,8 @@ pub enum Outcome {
 pub struct Held {
     pub book: Book,
     pub connection: Connection,
+    /// How many entries the book of the last `book` had: so many records are shown and overwritten.
+    shown: usize,
 }
 
 pub struct Session {
@@ -74,12 +77,14 @@ impl Session {
         }
     }
 
-    /// An accepted book comes with a fresh connection; a refused one changes nothing.
+    /// An accepted book comes with a fresh connection, in the area of the one before; a refused one changes nothing.
     fn book(&mut self, octets: &[u8]) -> Number {
         match book::read(octets) {
             Ok(book) => {
-                let connection = Connection::fresh(&book);
-                self.held = Some(Held { book, connection });
+                let mut connection = self.held.take().map_or(Connection::zero(), |held| held.connection);
+                connection.refresh(&book);
+                let shown = book.entries.len();
+                self.held = Some(Held { book, connection, shown });
                 DONE
             }
             Err(number) => number,
@@ -89,7 +94,7 @@ impl Session {
 
 impl Held {
     fn step(&mut self, step: Step, size: usize, area: usize) -> Outcome {
-        let Held { book, connection } = self;
+        let Held { book, connection, .. } = self;
         match step {
             Step::Rebook(octets) => Outcome::Rebook(self.rebook(&octets)),
             Step::Packet(octets) => Outcome::Packet(bridge::packet(book, size, connection, &octets, area)),
@@ -98,7 +103,12 @@ impl Held {
                 Outcome::Settings(bridge::settings(book, connection, seid).map(<[u8]>::to_vec))
             }
             Step::Delay(seid) => Outcome::Delay(bridge::delay(book, connection, seid)),
-            Step::States => Outcome::States(connection.records.clone()),
+            Step::Status(seid) => Outcome::Status(bridge::status(book, connection, seid)),
+            Step::States => Outcome::States(self.shown().to_vec()),
+            Step::Count(count) => {
+                connection.count = count;
+                Outcome::Quiet
+            }
             Step::Record(record) => self.overwrite(record),
             Step::Gathering(gathering) => {
                 connection.gathering = gathering;
@@ -110,7 +120,12 @@ impl Held {
         }
     }
 
-    /// The connection stays as it was saved, legal for the new book or not.
+    /// The records that are shown and overwritten, whatever the count and the book in use say.
+    pub fn shown(&self) -> &[Record] {
+        &self.connection.records[..self.shown]
+    }
+
+    /// The connection stays as it was saved, its count too, legal for the new book or not.
     fn rebook(&mut self, octets: &[u8]) -> Number {
         match book::read(octets) {
             Ok(book) => {
@@ -123,7 +138,7 @@ impl Held {
 
     /// The records belong to the SEIDs that were saved, not to those of the book in use.
     fn overwrite(&mut self, record: Record) -> Outcome {
-        let mut saved = self.connection.records.iter_mut();
+        let mut saved = self.connection.records[..self.shown].iter_mut();
         match saved.find(|saved| saved.seid == record.seid) {
             Some(saved) => {
                 *saved = record;
@@ -156,6 +171,8 @@ impl Outcome {
             Outcome::Delay(Ok(Some(tenths))) => writeln!(out, "delay 0 reported {tenths}"),
             Outcome::Delay(Ok(None)) => writeln!(out, "delay 0 unreported 0"),
             Outcome::Delay(Err(number)) => writeln!(out, "delay {number} unreported 0"),
+            Outcome::Status(Ok(status)) => writeln!(out, "status 0 {}", status_words(*status)),
+            Outcome::Status(Err(number)) => writeln!(out, "status {number} {}", status_words(NO_STATUS)),
             Outcome::States(records) => {
                 records.iter().try_for_each(|record| writeln!(out, "{}", record_words(record)))
             }
@@ -175,8 +192,12 @@ pub fn record_words(record: &Record) -> String {
         true => "-".to_string(),
         false => record.config.iter().map(|octet| format!("{octet:02X}")).collect(),
     };
-    let (state, channel) = (state_name(record.state), channel_name(record.channel));
-    format!("{} {state} {channel} {} {delay} {config}", record.seid.0, record.far.0)
+    let Record { state, channel, far, .. } = *record;
+    format!("{} {} {delay} {config}", record.seid.0, status_words(Status { state, channel, far }))
+}
+
+fn status_words(status: Status) -> String {
+    format!("{} {} {}", state_name(status.state), channel_name(status.channel), status.far.0)
 }
 
 /// Octets as answers show them, a blank before each.

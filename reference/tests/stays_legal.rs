@@ -1,4 +1,5 @@
-//! A connection that only the calls changed is legal: without `record`, `gathering` and `rebook` no call gives 12.
+//! A connection that only the calls changed is legal: without `record`, `gathering`, `count` and `rebook` no call gives
+//! 12.
 
 mod common;
 
@@ -11,7 +12,7 @@ fn no_call_makes_a_connection_illegal() {
         let mut kept = Vec::new();
         for line in script.split(|&octet| octet == b'\n') {
             let step = line.trim_ascii_start();
-            let tampers = [&b"record"[..], b"gathering", b"rebook"];
+            let tampers = [&b"record"[..], b"gathering", b"count", b"rebook"];
             if !tampers.iter().any(|word| step.starts_with(word)) {
                 kept.extend_from_slice(line);
                 kept.push(b'\n');
@@ -23,7 +24,7 @@ fn no_call_makes_a_connection_illegal() {
         for line in answers.lines() {
             let mut words = line.split(' ');
             let call = words.next().expect("an answer has a word");
-            let refused = ["refused", "event", "settings", "delay"].contains(&call);
+            let refused = ["refused", "event", "settings", "delay", "status"].contains(&call);
             assert!(!(refused && words.next() == Some("12")), "seed {seed}: {line}");
         }
     }

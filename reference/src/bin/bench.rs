@@ -86,7 +86,9 @@ fn write_step(out: &mut impl Write, step: Step) -> io::Result<()> {
             (10, [size, m.label.into(), m.message_type.into(), m.signal.into(), area, number], m.payload)
         }
         Step::Explain => (11, [0; 6], Vec::new()),
-        Step::States | Step::Record(_) | Step::Gathering(_) => return Ok(()),
+        Step::Status(_) | Step::States | Step::Count(_) | Step::Record(_) | Step::Gathering(_) => {
+            return Ok(())
+        }
     };
     out.write_all(&[kind])?;
     for number in numbers {
@@ -161,8 +163,7 @@ struct Host<'a> {
 }
 
 fn run(calls: &[Call], turns: u64) -> u64 {
-    let mut host =
-        Host { book: &[], connection: Connection { records: Vec::new(), gathering: None }, size: 672, area: 64 };
+    let mut host = Host { book: &[], connection: Connection::zero(), size: 672, area: 64 };
     let mut sum = 0;
     for _ in 0..turns {
         let mut measuring = false;
@@ -189,7 +190,7 @@ impl<'a> Host<'a> {
         match call {
             Call::Book(octets) => {
                 if let Ok(book) = book::read(octets) {
-                    self.connection = Connection::fresh(&book);
+                    self.connection.refresh(&book);
                     self.book = octets;
                 }
                 0

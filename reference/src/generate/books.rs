@@ -257,6 +257,21 @@ fn draft_of(book: &Book) -> Draft {
     Draft::of(entries.collect())
 }
 
+/// A book of one entry, and the same with a second one; the SEIDs are those that come first.
+pub fn growing(rng: &mut Rng) -> (Vec<u8>, Vec<u8>) {
+    let mut draft = Draft::of(vec![entry(rng, 1)]);
+    let short = draft.octets();
+    draft.entries.push(entry(rng, 2));
+    (short, draft.octets())
+}
+
+/// So many of the first entries of a book as a book.
+pub fn front(book: &Book, count: usize) -> Vec<u8> {
+    let mut draft = draft_of(book);
+    draft.entries.truncate(count);
+    draft.octets()
+}
+
 /// A valid book, mostly, that differs from the one in use so that a connection saved for that is legal or not.
 pub fn related(rng: &mut Rng, book: &Book) -> Vec<u8> {
     let mut draft = draft_of(book);

@@ -14,11 +14,11 @@ pub fn cut(rng: &mut Rng) -> Step {
     };
     let length = payload_length(rng, size);
     // With a wrong size a wrong label shows which counts first.
-    let wrong = if size_is_good(size) { 30 } else { 200 };
+    let wrong = if size_is_good(size) { 60 } else { 200 };
     let message = Message {
-        label: if rng.chance(wrong) { rng.pick(&[16, 255]) } else { rng.between(0, 15) as u8 },
-        message_type: if rng.chance(wrong) { rng.pick(&[4, 255]) } else { rng.between(0, 3) as u8 },
-        signal: if rng.chance(wrong) { rng.pick(&[64, 255]) } else { rng.between(0, 63) as u8 },
+        label: if rng.chance(wrong) { rng.pick(&[16, 16, 255]) } else { rng.between(0, 15) as u8 },
+        message_type: if rng.chance(wrong) { rng.pick(&[4, 4, 255]) } else { rng.between(0, 3) as u8 },
+        signal: if rng.chance(wrong) { rng.pick(&[64, 64, 255]) } else { rng.between(0, 63) as u8 },
         payload: rng.octets(length),
     };
     let count = if size_is_good(size) { packet_count(size, length) } else { 1 };

@@ -123,6 +123,7 @@ fn of_wrong_length(rng: &mut Rng) -> (u8, Vec<u8>) {
         (TRANSPORT, 1),
         (TRANSPORT, 2),
         (REPORTING, 1),
+        (REPORTING, 1),
         (RECOVERY, 2),
         (RECOVERY, 4),
         (RECOVERY, 4),
@@ -133,6 +134,7 @@ fn of_wrong_length(rng: &mut Rng) -> (u8, Vec<u8>) {
         (MULTIPLEXING, 0),
         (CODEC, 0),
         (CODEC, 1),
+        (DELAY, 1),
         (DELAY, 1),
     ]);
     (category, rng.octets(length))

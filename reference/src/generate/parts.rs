@@ -117,12 +117,18 @@ pub fn disturb(rng: &mut Rng, size: usize, packets: &mut Vec<Vec<u8>>, other: Ve
             let strange = strange(rng, size, &packets[place], other);
             packets.insert(place, strange);
         }
-        _ => match rng.below(4) {
+        _ => match rng.below(5) {
             0 => {
                 packets.remove(place);
             }
             1 => packets.insert(place, packets[place].clone()),
             2 => packets.swap(place, 0),
+            3 => {
+                // An end that comes before its time.
+                if let [.., early, _] = &mut packets[..] {
+                    early[0] |= head(0, END, 0);
+                }
+            }
             _ => {
                 // A count that is not the number of packets.
                 if let Some(count) = packets[0].get_mut(1) {

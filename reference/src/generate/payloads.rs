@@ -13,14 +13,13 @@ use crate::session::Held;
 pub type Command = (u8, Vec<u8>);
 
 /// A message to be cut: mostly a command, now and then of about as many octets as it may have.
-pub fn message(rng: &mut Rng, held: &Held, size: usize) -> Message {
-    let (signal, mut payload) = command(rng, held);
+pub fn message(rng: &mut Rng, (signal, mut payload): Command, size: usize) -> Message {
     let signal = if rng.chance(if size < 300 { 20 } else { 110 }) {
         // Around the most octets that a message may have; at a small size that takes many packets.
         let signal = rng.pick(&[signal, SECURITY_CONTROL, 0x0E, 0x3F]);
         let length = match rng.below(3) {
             0 => size - rng.below(4),
-            _ => rng.pick(&[511, 512, 512, 513, 513, 514]),
+            _ => rng.pick(&[511, 512, 512, 513, 513, 513, 514]),
         };
         payload.resize(length, 0);
         signal
@@ -69,7 +68,9 @@ fn likely(rng: &mut Rng, held: &Held, place: usize) -> u8 {
             (OPEN, 40),
             (DELAY_REPORT, 20),
             (GET_CONFIGURATION, 8),
-            (SET_CONFIGURATION, 4),
+            (SET_CONFIGURATION, 6),
+            (RECONFIGURE, 4),
+            (CLOSE, 4),
             (ABORT, 4),
             (DISCOVER, 4),
             (SECURITY_CONTROL, 4),
@@ -86,14 +87,14 @@ fn likely(rng: &mut Rng, held: &Held, place: usize) -> u8 {
         (State::Open, _) => &[
             (START, 30),
             (RECONFIGURE, 40),
-            (CLOSE, 8),
+            (CLOSE, 14),
             (DELAY_REPORT, 8),
             (GET_CONFIGURATION, 6),
             (ABORT, 4),
         ],
         (State::Streaming, _) => &[
             (SUSPEND, 35),
-            (RECONFIGURE, 6),
+            (RECONFIGURE, 9),
             (SET_CONFIGURATION, 4),
             (SECURITY_CONTROL, 4),
             (CLOSE, 12),
@@ -102,23 +103,31 @@ fn likely(rng: &mut Rng, held: &Held, place: usize) -> u8 {
             (GET_CONFIGURATION, 6),
             (DISCOVER, 4),
         ],
-        _ => &[(ABORT, 4), (GET_CONFIGURATION, 4), (DELAY_REPORT, 4), (CLOSE, 4), (DISCOVER, 4)],
+        _ => &[
+            (ABORT, 3),
+            (GET_CONFIGURATION, 6),
+            (DELAY_REPORT, 6),
+            (RECONFIGURE, 4),
+            (CLOSE, 4),
+            (SET_CONFIGURATION, 3),
+            (DISCOVER, 3),
+        ],
     };
     let weights: Vec<usize> = commands.iter().map(|(_, weight)| *weight).collect();
     commands[rng.weighted(&weights)].0
 }
 
-/// The saved records may be fewer than the entries, or others, after a `rebook`.
 fn state(held: &Held, place: usize) -> State {
-    held.connection.records.get(place).map_or(State::Idle, |record| record.state)
+    held.connection.records[place].state
 }
 
 fn channel(held: &Held, place: usize) -> Channel {
-    held.connection.records.get(place).map_or(Channel::None, |record| record.channel)
+    held.connection.records[place].channel
 }
 
 pub fn payload(rng: &mut Rng, held: &Held, place: usize, signal: u8) -> Vec<u8> {
     let mut payload = match signal {
+        DISCOVER if rng.chance(120) => vec![our_octet(rng, held, place)],
         DISCOVER => Vec::new(),
         SET_CONFIGURATION => set_configuration(rng, held, place),
         RECONFIGURE => reconfigure(rng, held, place),
@@ -130,7 +139,7 @@ pub fn payload(rng: &mut Rng, held: &Held, place: usize, signal: u8) -> Vec<u8> 
             vec![our_octet(rng, held, place), tenths[0], tenths[1]]
         }
         SECURITY_CONTROL => {
-            let seid = if rng.chance(200) { unknown(rng, held) << 2 } else { our_octet(rng, held, place) };
+            let seid = if rng.chance(350) { unknown(rng, held) << 2 } else { our_octet(rng, held, place) };
             let length = rng.below(6);
             [vec![seid], rng.octets(length)].concat()
         }
@@ -165,7 +174,8 @@ fn our_octet(rng: &mut Rng, held: &Held, place: usize) -> u8 {
 pub fn unknown(rng: &mut Rng, held: &Held) -> u8 {
     let is_unknown = |seid: &u8| held.book.place_of(OurSeid(*seid)).is_none();
     let seids: Vec<u8> = (0..=63).filter(is_unknown).collect();
-    let far = held.connection.records.iter().map(|record| record.far.0).find(is_unknown);
+    let records = held.connection.records_of(&held.book);
+    let far = records.iter().map(|record| record.far.0).find(is_unknown);
     let any = rng.pick(&seids);
     let far = far.unwrap_or(any);
     rng.pick(&[0, 63, any, far, far])
@@ -188,7 +198,15 @@ pub fn far_seid(rng: &mut Rng) -> u8 {
 
 fn set_configuration(rng: &mut Rng, held: &Held, place: usize) -> Vec<u8> {
     let offered = &held.book.entries[place].offered;
-    let far = if rng.chance(90) { rng.pick(&[0, 63]) } else { far_seid(rng) };
+    // With an endpoint in use a wrong far SEID shows which counts first.
+    let wrong = if state(held, place) == State::Idle { 90 } else { 400 };
+    // Two endpoints may have the same far SEID (DESIGN, open point 8).
+    let used = held.connection.records_of(&held.book).iter().map(|record| record.far.0).find(|&far| far != 0);
+    let far = match used {
+        _ if rng.chance(wrong) => rng.pick(&[0, 63]),
+        Some(far) if rng.chance(250) => far,
+        _ => far_seid(rng),
+    };
     let list = lists::configuration(rng, offered);
     let list = lists::as_sent(rng, list);
     let head = vec![our_octet(rng, held, place), far << 2 | reserved(rng)];
@@ -231,8 +249,10 @@ fn seids(rng: &mut Rng, held: &Held, place: usize, from: State) -> Vec<u8> {
     if rng.chance(150) {
         places.push(places[0]);
     }
-    if rng.chance(200) {
-        places.insert(rng.below(places.len() + 1), rng.below(count));
+    if rng.chance(250) {
+        // Before all others or anywhere.
+        let at = if rng.chance(500) { 0 } else { rng.below(places.len() + 1) };
+        places.insert(at, rng.below(count));
     }
     places.into_iter().map(|place| our_octet(rng, held, place)).collect()
 }

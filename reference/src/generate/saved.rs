@@ -64,9 +64,11 @@ fn tenths(rng: &mut Rng) -> u16 {
 /// A record with one fault, mostly.
 pub fn damaged_record(rng: &mut Rng, entry: &Entry) -> Record {
     let mut record = legal_record(rng, entry);
-    match rng.below(9) {
+    match rng.below(10) {
         0 | 1 => return spoil_idle(rng, entry),
         2 | 3 => return with_wrong_channel(rng, entry),
+        // Not legal where another one awaits its channel.
+        9 => return in_use(rng, entry, State::Open, Channel::Awaited),
         4 => record.far = FarSeid(rng.pick(&[0, 63, 64, 128, 255])),
         5 => record.delay = Some(tenths(rng)),
         6 => record.state = State::Idle,
@@ -142,9 +144,9 @@ pub fn legal_gathering(rng: &mut Rng) -> Gathering {
 pub fn damaged_gathering(rng: &mut Rng) -> Gathering {
     let mut gathering = legal_gathering(rng);
     match rng.below(6) {
-        0 => gathering.label = rng.pick(&[16, 16, 17, 255]),
-        1 => gathering.message_type = rng.pick(&[4, 4, 255]),
-        2 => gathering.signal = rng.pick(&[64, 64, 128, 255]),
+        0 => gathering.label = rng.pick(&[16, 16, 16, 255]),
+        1 => gathering.message_type = rng.pick(&[4, 4, 4, 255]),
+        2 => gathering.signal = rng.pick(&[64, 64, 64, 255]),
         3 => {
             gathering.count = rng.pick(&[0, 1, 1]);
             gathering.parts = rng.pick(&[0, 1]);

@@ -19,7 +19,9 @@ pub fn plain(step: &Step) -> String {
         Step::Event(Event::Lost) => "lost".to_string(),
         Step::Settings(seid) => format!("settings {}", seid.0),
         Step::Delay(seid) => format!("delay {}", seid.0),
+        Step::Status(seid) => format!("status {}", seid.0),
         Step::States => "states".to_string(),
+        Step::Count(count) => format!("count {count}"),
         Step::Record(record) => format!("record {}", record_words(record)),
         Step::Gathering(None) => "gathering none".to_string(),
         Step::Gathering(Some(held)) => format!(
@@ -73,7 +75,13 @@ fn small_hex(text: &str) -> String {
 fn with_zeros(rng: &mut Rng, step: &Step, text: &str) -> String {
     let ends_in_number = matches!(
         step,
-        Step::Size(_) | Step::Area(_) | Step::Event(Event::Down(_)) | Step::Settings(_) | Step::Delay(_)
+        Step::Size(_)
+            | Step::Area(_)
+            | Step::Event(Event::Down(_))
+            | Step::Settings(_)
+            | Step::Delay(_)
+            | Step::Status(_)
+            | Step::Count(_)
     );
     match text.rsplit_once(' ') {
         Some((front, number)) if ends_in_number => {
@@ -114,8 +122,8 @@ pub fn odd(rng: &mut Rng, step: &Step, seid: u8) -> Vec<u8> {
         12 | 17 => return edge_of_format(rng, seid).into_bytes(),
         13 => words[0] = rng.pick(&["packet", "cut", "record", "gathering", "size", "explain"]).to_string(),
         14 => {
-            let over = if rng.chance(300) { LONGEST_LINE + 1 - text.len().min(LONGEST_LINE) } else { 0 };
-            let filling = rng.pick(&[" ", "\r", "#", "0"]).repeat(over);
+            let over = if rng.chance(600) { LONGEST_LINE + 1 - text.len().min(LONGEST_LINE) } else { 0 };
+            let filling = rng.pick(&[" ", "\r", "#", "#", "0"]).repeat(over);
             words.last_mut().unwrap().push_str(&filling);
         }
         _ => words.swap(place, 0),
@@ -132,6 +140,11 @@ fn unknown_words(rng: &mut Rng) -> &'static str {
         "Book 48 4C 42",
         "packets 10 01",
         "status",
+        "status 1 1",
+        "status 256",
+        "count",
+        "count 1 1",
+        "count 256",
         "UP",
         "event up",
         "reset",
