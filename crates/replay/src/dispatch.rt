@@ -1,12 +1,14 @@
-// A step goes to its function by its letter, in one of three places: what holds from here on, what changes what is saved, and what
-// only asks.
+// A step goes to its function by its letter, in one of three places: steps that say what holds from here on, steps that change
+// what is saved, and steps that only ask.
 use replay_answers::kept::Kept;
 use replay_answers::octs::front;
+use replay_answers::octs::lay;
 use replay_answers::octs::octet;
 use replay_answers::says;
 use replay_answers::says::answer;
-use replay_script::reading;
 use replay_script::reading::FINE;
+use replay_script::reading::Line;
+use replay_script::reading::read;
 use replay_steps::arrivals;
 use replay_steps::books;
 use replay_steps::events;
@@ -29,14 +31,23 @@ fn settle(step: u8, n: usize, octets: &[u8], kept: Kept, book: &mut [u8], saved:
     }
 }
 
-// What changes what is saved; answers whether the line was understood, which `why` says of any other step.
-fn change(why: u8, step: u8, numbers: [usize; 6], octets: &[u8], kept: Kept, book: &[u8], saved: &mut [u8]) -> u8 {
+// What changes what is saved, which was `before`; answers whether the line was understood, which `why` says of any other step.
+fn change(
+    why: u8,
+    step: u8,
+    numbers: [usize; 6],
+    octets: &[u8],
+    kept: Kept,
+    book: &[u8],
+    before: &[u8],
+    saved: &mut [u8],
+) -> u8 {
     let seid = OurSeid(octet(numbers[0]));
     match step {
-        b'p' => arrivals::packet(kept, book, saved, octets),
-        b'u' => events::happen(kept, book, saved, Event::Up, notes::NO_CHANNEL_AWAITED),
-        b'd' => events::happen(kept, book, saved, Event::Down(seid), notes::NO_CHANNEL),
-        b'l' => events::happen(kept, book, saved, Event::Lost, notes::NO_CHANNEL),
+        b'p' => arrivals::packet(kept, book, saved, before, octets),
+        b'u' => events::happen(kept, book, saved, before, Event::Up, notes::NO_CHANNEL_AWAITED),
+        b'd' => events::happen(kept, book, saved, before, Event::Down(seid), notes::NO_CHANNEL),
+        b'l' => events::happen(kept, book, saved, before, Event::Lost, notes::NO_CHANNEL),
         b'w' => overwrites::record(kept, saved, numbers, octets),
         b'n' => overwrites::no_gathering(saved),
         b'g' => overwrites::gathering(saved, numbers, octets),
@@ -67,14 +78,21 @@ pub fn complain(explains: bool, k: usize, why: u8) {
     }
 }
 
+// Line k, with the octets at its end: exactly one of the three has its step.
+fn serve(k: usize, line: Line, octets: &[u8], kept: Kept, book: &mut [u8], saved: &mut [u8]) -> Kept {
+    let numbers = line.numbers;
+    ask(line.step, numbers, octets, kept, front(book, kept.book), saved);
+    let mut before = [0u8; 1800];
+    lay(&mut before, 0, saved);
+    let why = change(line.why, line.step, numbers, octets, kept, front(book, kept.book), &before, saved);
+    complain(kept.explains, k, why);
+    settle(line.step, numbers[0], octets, kept, book, saved)
+}
+
 // The step of line k.
 pub fn run(k: usize, text: &[u8], kept: Kept, book: &mut [u8], saved: &mut [u8]) -> Kept {
     let mut data = [0u8; 4096];
-    let line = reading::read(text, 0 < kept.book, &mut data);
-    let numbers = line.numbers;
+    let line = read(text, 0 < kept.book, &mut data);
     let count = line.octets;
-    ask(line.step, numbers, front(&data, count), kept, front(book, kept.book), saved);
-    let why = change(line.why, line.step, numbers, front(&data, count), kept, front(book, kept.book), saved);
-    complain(kept.explains, k, why);
-    settle(line.step, numbers[0], front(&data, count), kept, book, saved)
+    serve(k, line, front(&data, count), kept, book, saved)
 }

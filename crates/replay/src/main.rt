@@ -1,12 +1,11 @@
-// Runs a script of packets and events against the bridge, line by line, and writes the bridge's answers. Every line gets its answer,
-// or `line K not understood`; nothing ends the run but the end of the input.
+// Runs a script of packets and events against the bridge, line by line, and writes the bridge's answers. Every line gets its
+// answer, or `line K not understood`; nothing ends the run but the end of the input.
 mod dispatch;
-mod input;
 use crate::dispatch::complain;
 use crate::dispatch::run;
-use crate::input::Reader;
-use crate::input::fewer;
-use crate::input::next;
+use replay_input::Reader;
+use replay_input::fewer;
+use replay_input::next;
 use replay_answers::kept::Kept;
 use replay_answers::octs::front;
 use replay_script::lines;

@@ -60,21 +60,10 @@ pub fn config(slot: &[u8]) -> &[u8] {
     front(&slot[8..72], wide(slot[7]))
 }
 
-// The name of a state, behind a text.
-pub fn say_state(before: &[u8], state: u8) {
-    say(before);
-    phrase(
-        b"\x00:idle\n\x01:configured\n\x02:open\n\x03:streaming\n\x04:closing\n\x05:aborting\n",
-        state,
-        0,
-        0,
-    );
-}
-
-// The name of a channel, behind a text.
-pub fn say_channel(before: &[u8], channel: u8) {
-    say(before);
-    phrase(b"\x00:none\n\x01:awaited\n\x02:up\n", channel, 0, 0);
+// The names of a state and of a channel.
+fn say_names(state: u8, channel: u8) {
+    phrase(b"\x00: idle\n\x01: configured\n\x02: open\n\x03: streaming\n\x04: closing\n\x05: aborting\n", state, 0, 0);
+    phrase(b"\x00: none\n\x01: awaited\n\x02: up\n", channel, 0, 0);
 }
 
 fn say_delay(mark: u8, tenths: usize) {
@@ -101,8 +90,7 @@ fn show(slot: &[u8]) {
         return;
     }
     fill(b"$", wide(slot[0]), 0);
-    say_state(b" ", slot[1]);
-    say_channel(b" ", slot[2]);
+    say_names(slot[1], slot[2]);
     fill(b" $ ", wide(slot[3]), 0);
     say_delay(slot[4], pair(slot[5], slot[6]));
     say_config(config(slot));

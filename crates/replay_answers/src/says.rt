@@ -1,5 +1,5 @@
-// What is written: texts, in which `$` stands for a number, texts of a table, and octets. Each piece is written at once, so that who
-// types a script sees each answer before the next line.
+// What is written: texts, in which `$` stands for a number, texts of a table, and octets. Each piece is written at once, so that
+// who types a script sees each answer before the next line.
 use crate::octs::front;
 use crate::octs::lay;
 use libc::STDOUT_FILENO;
@@ -38,6 +38,13 @@ pub fn fill(text: &[u8], a: usize, b: usize) {
 pub fn phrase(table: &[u8], key: u8, a: usize, b: usize) {
     let name = [key];
     fill(said(table, &name), a, b);
+}
+
+// The same as a line of its own that says something of an answer.
+pub fn sentence(table: &[u8], key: u8, a: usize, b: usize) {
+    say(b"# ");
+    phrase(table, key, a, b);
+    say(b"\n");
 }
 
 // Two digits in capitals, with a blank before them or none, laid into a text; answers the place behind them.

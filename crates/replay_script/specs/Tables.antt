@@ -1,9 +1,8 @@
 -- A table of texts: lines, each a name, a colon (58) and what is said under the name.
 use Prim.Native.Nat.{ℕ, suc, _+_}
 use Prim.Native.Char.{code}
-use Prim.Native.String.{String}
-use Prim.Native.String.{[] as none-left, _∷_ as _then_}
-use mathlib.Core.List.{List, [], _∷_}
+use Prim.Native.String.{String, [] as none-left, _∷_ as _then_}
+use mathlib.Core.List.{List, [], _∷_, _++_}
 use mathlib.Core.Bool.{Bool, true, _&&_}
 use lib.ListN.{length, drop}
 use lib.Dec.{eqb}
@@ -28,7 +27,11 @@ frontOf (x ∷ xs) = x
 unfoldable pub valueOf : List ℕ → List ℕ → ℕ
 valueOf name table = frontOf (saidOf name table)
 
--- a table as it is written
-abbrev pub octetsOf : String → List ℕ
-octetsOf none-left = []
-octetsOf (c then s) = code c ∷ octetsOf s
+-- a table as it is written, line by line
+abbrev pub lineOf : String → List ℕ
+lineOf none-left = 10 ∷ []
+lineOf (c then s) = code c ∷ lineOf s
+
+abbrev pub linesOf : List String → List ℕ
+linesOf [] = []
+linesOf (s ∷ ss) = lineOf s ++ linesOf ss

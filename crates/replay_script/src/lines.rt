@@ -1,5 +1,5 @@
-// A line is a step, or nothing: what stands before a comment, without the blanks at its ends. A step is words, parted by one blank
-// each; the place of a word is where it begins, and behind the last word it is the length of the step.
+// A line is a step, or nothing: what stands before a comment, without the blanks at its ends. A step is words, parted by one
+// blank each; the place of a word is where it begins, and behind the last word it is the length of the step.
 ghost use mathlib.Core.Path.{_≡_};
 ghost use lib.ListN.{drop};
 ghost use Rattle.replay_script.specs.Lines.{firstOf, isBlank, blanksOf, keptOf, stepOf, partAt, wordAt, nextAt};

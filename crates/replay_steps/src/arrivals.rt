@@ -1,18 +1,17 @@
 // packet: what comes from the far end.
 use replay_answers::kept::Kept;
 use replay_answers::octs::front;
-use replay_answers::octs::lay;
 use replay_answers::octs::pair;
 use replay_answers::octs::within;
 use replay_answers::says;
 use replay_answers::says::answer;
 use replay_answers::says::answer_with;
+use replay_script::lines::rest;
 use replay_script::numbers::wide;
 use replay_script::reading::FINE;
 use replay_words::changes;
 use replay_words::notes;
 use replay_words::outcomes;
-use replay_words::silences;
 use rules::Told;
 
 // A line for each packet of a reply.
@@ -42,41 +41,31 @@ fn say_told(size: usize, told: Told, reply: &[u8]) {
     say_reply(size, told.label, told.kind, told.signal, reply);
 }
 
-// The payload of the message that a packet completed, put together in `whole`; answers its length.
-fn payload(packet: &[u8], gathering: &[u8], whole: &mut [u8]) -> usize {
+// Whether a packet is a whole message.
+fn single(packet: &[u8]) -> bool {
     if packet.len() < 2 {
-        return gathered(packet, gathering, whole);
+        return false;
     }
-    if silences::type_of(packet[0]) != 0 {
-        return gathered(packet, gathering, whole);
-    }
-    lay(whole, 0, &packet[2..]);
-    packet.len() - 2
+    replay_silences::type_of(packet[0]) == 0
 }
 
-// Of a message of several packets.
-fn gathered(packet: &[u8], gathering: &[u8], whole: &mut [u8]) -> usize {
-    if packet.len() == 0 {
-        return 0;
+// The payload that a packet carries, behind its head.
+fn carried(packet: &[u8]) -> &[u8] {
+    if single(packet) {
+        return rest(packet, 2);
     }
+    rest(packet, 1)
+}
+
+// The payload that was gathered before a packet, where it completed a message of several packets.
+fn gathered<'a>(packet: &[u8], gathering: &'a [u8]) -> &'a [u8] {
     if gathering.len() < 520 {
-        return 0;
+        return &gathering[0..0];
     }
-    let length = pair(gathering[6], gathering[7]);
-    if 512 < length {
-        return 0;
+    if single(packet) {
+        return &gathering[0..0];
     }
-    lay(whole, 0, &gathering[8..8 + length]);
-    lay(whole, length, &packet[1..]);
-    length + (packet.len() - 1)
-}
-
-// A reply in words: the command that was answered, and what has changed.
-fn explain_reply(kept: Kept, told: Told, packet: &[u8], before: &[u8], saved: &[u8], reply: &[u8]) {
-    let mut whole = [0u8; 672];
-    let asked = payload(packet, before, &mut whole);
-    outcomes::reply(told.kind, told.signal, front(&whole, asked), reply);
-    changes::all(before, saved, kept.records);
+    front(&gathering[8..520], pair(gathering[6], gathering[7]))
 }
 
 // What a packet's answer means, if that is asked for.
@@ -89,10 +78,11 @@ fn explain(kept: Kept, told: Told, packet: &[u8], before: &[u8], saved: &[u8], r
         return;
     }
     if told.kind == 0 {
-        silences::silent(kept.size, packet, before, saved);
+        replay_silences::silent(kept.size, packet, before, saved);
         return;
     }
-    explain_reply(kept, told, packet, before, saved, reply);
+    outcomes::reply(told.kind, told.signal, gathered(packet, before), carried(packet), reply);
+    changes::all(before, saved, kept.records);
 }
 
 // Hands a packet to the bridge.
@@ -102,14 +92,12 @@ fn receive(kept: Kept, book: &[u8], saved: &mut [u8], packet: &[u8], area: &mut 
     bridge::packet(book, kept.size, &mut saved[0..lent], packet, &mut area[0..room])
 }
 
-// packet HEX..
-pub fn packet(kept: Kept, book: &[u8], saved: &mut [u8], packet: &[u8]) -> u8 {
-    let mut before = [0u8; 1800];
-    lay(&mut before, 0, saved);
+// packet HEX..; `before` is what was saved before it.
+pub fn packet(kept: Kept, book: &[u8], saved: &mut [u8], before: &[u8], packet: &[u8]) -> u8 {
     let mut area = [0u8; 65536];
     let told = receive(kept, book, saved, packet, &mut area);
     let length = told.length;
     say_told(kept.size, told, front(&area, length));
-    explain(kept, told, packet, &before, saved, front(&area, length));
+    explain(kept, told, packet, before, saved, front(&area, length));
     FINE
 }

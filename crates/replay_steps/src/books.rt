@@ -15,8 +15,8 @@ fn entries(book: &[u8]) -> usize {
     wide(book[5])
 }
 
-// How many octets of the saved area are lent under a book with so many entries: a connection has one record for each entry, and one
-// with another number of records is lent as nothing, since its octets alone do not tell.
+// How many octets of the saved area are lent under a book with so many entries: a connection has one record for each entry, and
+// one with another number of records is lent as nothing, since its octets alone do not tell.
 fn lent(records: usize, entries: usize) -> usize {
     if 16 < entries {
         return 0;

@@ -9,7 +9,6 @@ use replay_answers::says::answer;
 use replay_answers::says::answer_with;
 use replay_script::numbers::wide;
 use replay_words::notes;
-use replay_words::silences;
 use rules::OurSeid;
 use rules::Piece;
 
@@ -55,7 +54,7 @@ pub fn delay(kept: Kept, book: &[u8], saved: &[u8], seid: u8) {
 pub fn states(kept: Kept, saved: &[u8]) {
     records::show_all(saved, kept.records);
     if kept.explains {
-        silences::gathering(saved);
+        replay_silences::gathering(saved);
     }
 }
 

@@ -2,58 +2,48 @@
 use replay_answers::octs::pair;
 use replay_answers::records::ROOM;
 use replay_answers::records::record;
-use replay_answers::records::say_channel;
-use replay_answers::records::say_state;
 use replay_answers::says::fill;
+use replay_answers::says::phrase;
 use replay_answers::says::say;
+use replay_answers::says::sentence;
 use replay_script::numbers::wide;
 
-fn state_change(seid: usize, from: u8, to: u8) -> bool {
+// An octet that has a name, from a table of names.
+fn renamed(seid: usize, table: &[u8], from: u8, to: u8) -> bool {
     if from == to {
         return false;
     }
     fill(b"# SEID $: ", seid, 0);
-    say_state(b"", from);
-    say_state(b" -> ", to);
+    phrase(table, from, 0, 0);
+    say(b" -> ");
+    phrase(table, to, 0, 0);
     say(b"\n");
     true
 }
 
-fn channel_change(seid: usize, from: u8, to: u8) -> bool {
-    if from == to {
-        return false;
-    }
-    fill(b"# SEID $: channel ", seid, 0);
-    say_channel(b"", from);
-    say_channel(b" -> channel ", to);
-    say(b"\n");
-    true
-}
-
-// A delay that was reported, or is forgotten; `same` says that there was no change.
-fn delay_change(same: bool, seid: usize, mark: u8, tenths: usize) -> bool {
+// What is there or not, and its number.
+fn renewed(same: bool, seid: usize, key: u8, n: usize) -> bool {
     if same {
         return false;
     }
-    if mark == 0 {
-        fill(b"# SEID $: its reported delay is forgotten\n", seid, 0);
-        return true;
-    }
-    fill(b"# SEID $: reported delay $ tenths of a millisecond\n", seid, tenths);
+    sentence(
+        b"f:SEID $: its reported delay is forgotten\n\
+        d:SEID $: reported delay $ tenths of a millisecond\n\
+        g:SEID $: its configuration is forgotten\n\
+        c:SEID $: configuration of $ octets\n",
+        key,
+        seid,
+        n,
+    );
     true
 }
 
-// A configuration that was set, or is forgotten, by its lengths.
-fn config_change(seid: usize, from: u8, to: u8) -> bool {
-    if from == to {
-        return false;
+// One of two keys: that of nothing, and that of something.
+fn key(octet: u8, nothing: u8, something: u8) -> u8 {
+    if octet == 0 {
+        return nothing;
     }
-    if to == 0 {
-        fill(b"# SEID $: its configuration is forgotten\n", seid, 0);
-        return true;
-    }
-    fill(b"# SEID $: configuration of $ octets\n", seid, wide(to));
-    true
+    something
 }
 
 fn either(a: bool, b: bool) -> bool {
@@ -72,11 +62,16 @@ fn changed(before: &[u8], after: &[u8]) -> bool {
         return false;
     }
     let seid = wide(after[0]);
-    let state = state_change(seid, before[1], after[1]);
-    let channel = channel_change(seid, before[2], after[2]);
-    let kept = octets::same(&before[4..7], &after[4..7]);
-    let delay = delay_change(kept, seid, after[4], pair(after[5], after[6]));
-    let config = config_change(seid, before[7], after[7]);
+    let state = renamed(
+        seid,
+        b"\x00:idle\n\x01:configured\n\x02:open\n\x03:streaming\n\x04:closing\n\x05:aborting\n",
+        before[1],
+        after[1],
+    );
+    let channel = renamed(seid, b"\x00:channel none\n\x01:channel awaited\n\x02:channel up\n", before[2], after[2]);
+    let same = octets::same(&before[4..7], &after[4..7]);
+    let delay = renewed(same, seid, key(after[4], b'f', b'd'), pair(after[5], after[6]));
+    let config = renewed(before[7] == after[7], seid, key(after[7], b'g', b'c'), wide(after[7]));
     either(either(state, channel), either(delay, config))
 }
 

@@ -2,5 +2,4 @@
 // a packet again.
 pub mod notes;
 pub mod outcomes;
-pub mod silences;
 pub mod changes;

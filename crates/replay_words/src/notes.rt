@@ -1,13 +1,5 @@
 // What the host's numbers mean, what the answers that are a number and little more mean, and why a line was not understood.
-use replay_answers::says::phrase;
-use replay_answers::says::say;
-
-// A text of a table, as a line of its own.
-pub fn sentence(table: &[u8], key: u8, a: usize, b: usize) {
-    say(b"# ");
-    phrase(table, key, a, b);
-    say(b"\n");
-}
+use replay_answers::says::sentence;
 
 // Number 10 says different things of different calls.
 pub const NO_CHANNEL_AWAITED: u8 = b'u';

@@ -159,30 +159,47 @@ fn say_check(key: u8) {
     say(b"\n");
 }
 
-// How many octets at the front of a command's payload name SEIDs: none, one, or each in Start and Suspend.
-fn naming(signal: u8, length: usize) -> usize {
+// Whether a command names every SEID of its payload, or the first alone: Start and Suspend name a list.
+fn lists(signal: u8) -> bool {
     match signal {
-        1 => 0,
-        7 => length,
-        9 => length,
-        _ => 1,
+        7 => true,
+        9 => true,
+        _ => false,
     }
 }
 
-// The SEID in an octet of a payload, number i of those that a command names.
-fn say_seid(i: usize, octet: u8) {
-    if i == 0 {
-        say(b" for SEID");
-    }
-    fill(b" $", wide(octet / 4), 0);
-}
-
+// The SEIDs in the octets of a payload.
 fn say_seids(seids: &[u8]) {
     let mut i = 0;
     while i < seids.len() {
-        say_seid(i, seids[i]);
+        say_seid(seids[i]);
         i += 1;
     }
+}
+
+fn say_seid(octet: u8) {
+    fill(b" $", wide(octet / 4), 0);
+}
+
+// The SEIDs that a command names, whose payload came in two parts; Discover names none.
+fn say_named(signal: u8, before: &[u8], last: &[u8]) {
+    if signal == 1 {
+        return;
+    }
+    if before.len() + last.len() == 0 {
+        return;
+    }
+    say(b" for SEID");
+    if lists(signal) {
+        say_seids(before);
+        say_seids(last);
+        return;
+    }
+    if 0 < before.len() {
+        say_seid(before[0]);
+        return;
+    }
+    say_seids(front(last, 1));
 }
 
 // The key of what a reject names besides its code: a SEID in Start and Suspend, else a category, where 0 stands for the command.
@@ -213,17 +230,17 @@ fn rejected(signal: u8, length: usize, reply: &[u8]) {
     }
 }
 
-// `kind` is the reply's message type, and the two payloads are the command's and the reply's.
-pub fn reply(kind: u8, signal: u8, payload: &[u8], reply: &[u8]) {
+// `kind` is the reply's message type, and `reply` its payload; the command's payload is what came `before`, and the `last` part.
+pub fn reply(kind: u8, signal: u8, before: &[u8], last: &[u8], reply: &[u8]) {
     say_signal(signal);
     if kind == 1 {
         say(b": general reject\n");
         return;
     }
-    say_seids(front(payload, naming(signal, payload.len())));
+    say_named(signal, before, last);
     if kind == 2 {
         say(b": accepted\n");
         return;
     }
-    rejected(signal, payload.len(), reply);
+    rejected(signal, before.len() + last.len(), reply);
 }

@@ -14,11 +14,5 @@ pub find-spec : {M : Type 1} → statement M
 find-spec =
     tie.close
     (tie.spec Inv-loop μ-loop
-      (λ c. search needs)
-      (λ c κs. search needs)
-      (λ c κs. search needs)
-      (λ c. search needs)
-      (λ c. search needs)
-      (λ c. search needs)
-      (λ c. search needs)
-      (λ c. search needs))
+      (λ c. search needs) (λ c κs. search needs) (λ c κs. search needs) (λ c. search needs) (λ c. search needs)
+      (λ c. search needs) (λ c. search needs) (λ c. search needs))

@@ -14,10 +14,5 @@ pub show-all-spec : {M : Type 1} → statement M
 show-all-spec =
     tie.close
     (tie.spec Inv-loop μ-loop
-      (λ c. search needs)
-      (λ c κs. search needs)
-      (λ c κs. search needs)
-      (λ c. search needs)
-      (λ c. search needs)
-      (λ c. search needs)
-      (λ c. search needs))
+      (λ c. search needs) (λ c κs. search needs) (λ c κs. search needs) (λ c. search needs) (λ c. search needs)
+      (λ c. search needs) (λ c. search needs))

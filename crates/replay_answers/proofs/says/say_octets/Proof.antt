@@ -16,14 +16,6 @@ pub say-octets-spec : {M : Type 1} → statement M
 say-octets-spec =
     tie.close
     (tie.spec Inv-loop μ-loop
-      (λ c. search needs)
-      (λ c. search needs)
-      (λ c. search needs)
-      (λ c κs. search needs)
-      (λ c. search needs)
-      (λ c. search needs)
-      (λ c. search needs)
-      (λ c. search needs)
-      (λ c κs. search needs)
-      (λ c κs. search needs)
+      (λ c. search needs) (λ c. search needs) (λ c. search needs) (λ c κs. search needs) (λ c. search needs)
+      (λ c. search needs) (λ c. search needs) (λ c. search needs) (λ c κs. search needs) (λ c κs. search needs)
       (λ c. search needs))

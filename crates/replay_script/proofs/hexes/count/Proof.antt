@@ -93,7 +93,8 @@ is-there-requires c κs =
     let wholes = some .before in
     let s = wholes .before .before .before .args .s .now in
     let parted = wholes .before .before .before .args .parted in
-    omega (arith, fewer parted (length s) (wholes .whole .result) (wholes .before .if1 .left) (wholes .whole .ensures) (some .if2 .left))
+    omega (arith, fewer parted (length s) (wholes .whole .result) (wholes .before .if1 .left) (wholes .whole .ensures)
+      (some .if2 .left))
 
 returns-3 : tie.Need-returns-3 Inv-loop μ-loop
 returns-3 c =
@@ -102,7 +103,8 @@ returns-3 c =
     let some = at-loop .before in
     let wholes = some .before in
     let args = wholes .before .before .before .args in
-    broken (args .parted) (args .s .now) (wholes .whole .result) (wholes .before .if1 .left) (wholes .whole .ensures) (some .if2 .left)
+    broken (args .parted) (args .s .now) (wholes .whole .result) (wholes .before .if1 .left) (wholes .whole .ensures)
+      (some .if2 .left)
       ( at-loop .loop .inv .1
         ∙ turn (args .parted) (args .s .now) (at-loop .loop .k) false (omega arith)
             (sym (not-true (tests .is-there .result) (c .if3 .taken)) ∙ tests .is-there .ensures))
@@ -126,7 +128,8 @@ returns-4 c =
     let some = at-loop .before in
     let wholes = some .before in
     let args = wholes .before .before .before .args in
-    counted (args .parted) (args .s .now) (wholes .whole .result) (wholes .before .if1 .left) (wholes .whole .ensures) (some .if2 .left)
+    counted (args .parted) (args .s .now) (wholes .whole .result) (wholes .before .if1 .left) (wholes .whole .ensures)
+      (some .if2 .left)
       (at-loop .loop .inv .1 ∙ ended (args .parted) (args .s .now) (at-loop .loop .k) (omega arith))
 
 pub count-spec : {M : Type 1} → statement M

@@ -78,7 +78,8 @@ shared-slice-read-result c =
     let reads = c .before .before .before .before in
     let places = reads .before in
     let args = places .before .before .args in
-    before-inside (args .parted) (args .s .now) (args .k) (places .place .result) (reads .octet-at .result) (places .place .ensures)
+    before-inside (args .parted) (args .s .now) (args .k) (places .place .result) (reads .octet-at .result)
+      (places .place .ensures)
       (reads .octet-at .ensures) (c .before .before .before .if1 .left)
 
 returns-4 : tie.Need-returns-4

@@ -120,7 +120,8 @@ returns-3 c =
     let at-loop = c .before in
     let fits = at-loop .before in
     let args = fits .before .before .before .before .args in
-    all-read (args .parted) (args .s .now) (args .dst .now) (at-loop .loop .dst) (args .n) (at-loop .loop .k) (fits .before .if1 .left)
+    all-read (args .parted) (args .s .now) (args .dst .now) (at-loop .loop .dst) (args .n) (at-loop .loop .k)
+      (fits .before .if1 .left)
       (fits .if2 .left) (at-loop .loop .inv .0) (omega arith)
 
 pub read-spec : {M : Type 1} → statement M

@@ -19,7 +19,8 @@ text-of line end e = ap (λ (n : ℕ). take n line) same-end
 ends-within : (line : List ℕ) (end : ℕ) → end ≡ firstOf 35 line → end ≤ length line
 ends-within line end e = omega (arith, e, first-within 35 line)
 
-module _ (line text : List ℕ) (from to : ℕ) (e : text ≡ take (firstOf 35 line) line) (f : from ≡ blanksOf text) (t : to ≡ keptOf text)
+module _ (line text : List ℕ) (from to : ℕ) (e : text ≡ take (firstOf 35 line) line) (f : from ≡ blanksOf text)
+  (t : to ≡ keptOf text)
   where
   cut-out : take (to - from) (drop from text) ≡ stepOf line
   unfolding stepOf trimmed

@@ -52,7 +52,8 @@ module _ (most : ℕ) (s : List ℕ) (value i : ℕ) (inside : i < length s) whe
         le-ltb most (longer value (getD s i 0)) k)
 
 abbrev Inv-loop : tie.InvT-loop
-Inv-loop word most value₀ i₀ value i = (i ≤ length word) × (value ≤ 65535) × (numberOf most word ≡ numberFrom most value (drop i word))
+Inv-loop word most value₀ i₀ value i =
+    (i ≤ length word) × (value ≤ 65535) × (numberOf most word ≡ numberFrom most value (drop i word))
 
 abbrev μ-loop : tie.MeasureT-loop
 μ-loop word most value₀ i₀ value i = length word - i
@@ -115,7 +116,8 @@ loop-again c =
     ( omega arith,
       omega (arith, start .fits .most),
       at-loop .loop .inv .2
-      ∙ further (args .most) (args .word .now) (at-loop .loop .value) (at-loop .loop .i) (omega arith) (c .before .before .if2 .left)
+      ∙ further (args .most) (args .word .now) (at-loop .loop .value) (at-loop .loop .i) (omega arith)
+      (c .before .before .if2 .left)
           (c .before .if3 .left) (c .if4 .left))
 
 returns-5 : tie.Need-returns-5 Inv-loop μ-loop

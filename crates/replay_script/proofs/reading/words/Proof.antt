@@ -14,11 +14,5 @@ pub words-spec : {M : Type 1} → statement M
 words-spec =
     tie.close
     (tie.spec Inv-loop μ-loop
-      (λ c. search needs)
-      (λ c κs. search needs)
-      (λ c. search needs)
-      (λ c. search needs)
-      (λ c. search needs)
-      (λ c. search needs)
-      (λ c. search needs)
-      (λ c. search needs))
+      (λ c. search needs) (λ c κs. search needs) (λ c. search needs) (λ c. search needs) (λ c. search needs)
+      (λ c. search needs) (λ c. search needs) (λ c. search needs))

@@ -103,7 +103,8 @@ returns-2 : tie.Need-returns-2 Inv-loop μ-loop
 returns-2 c =
     let at-loop = c .before in
     let args = at-loop .before .before .before .args in
-    omega (arith, at-loop .loop .inv .1, ended (args .name .now) (at-loop .loop .starts) (args .table .now) (at-loop .loop .i) (omega arith))
+    omega (arith, at-loop .loop .inv .1,
+      ended (args .name .now) (at-loop .loop .starts) (args .table .now) (at-loop .loop .i) (omega arith))
 
 pub named-spec : {M : Type 1} → statement M
 named-spec =

@@ -16,14 +16,6 @@ pub say-reply-spec : {M : Type 1} → statement M
 say-reply-spec =
     tie.close
     (tie.spec Inv-loop μ-loop
-      (λ c κs. search needs)
-      (λ c. search needs)
-      (λ c. search needs)
-      (λ c κs. search needs)
-      (λ c. search needs)
-      (λ c κs. search needs)
-      (λ c κs. search needs)
-      (λ c. search needs)
-      (λ c. search needs)
-      (λ c. search needs)
+      (λ c κs. search needs) (λ c. search needs) (λ c. search needs) (λ c κs. search needs) (λ c. search needs)
+      (λ c κs. search needs) (λ c κs. search needs) (λ c. search needs) (λ c. search needs) (λ c. search needs)
       (λ c. search needs))

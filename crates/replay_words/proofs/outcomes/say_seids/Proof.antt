@@ -15,10 +15,5 @@ pub say-seids-spec : {M : Type 1} → statement M
 say-seids-spec =
     tie.close
     (tie.spec Inv-loop μ-loop
-      (λ c. search needs)
-      (λ c. search needs)
-      (λ c κs. search needs)
-      (λ c. search needs)
-      (λ c. search needs)
-      (λ c. search needs)
-      (λ c. search needs))
+      (λ c. search needs) (λ c. search needs) (λ c κs. search needs) (λ c. search needs) (λ c. search needs)
+      (λ c. search needs) (λ c. search needs))

@@ -6,8 +6,8 @@ use replay_answers::octs::lay;
 use replay_script::lines::first;
 use replay_script::lines::rest;
 
-// Where the reading is: what was read and not yet taken is from `from` to `to`; `length` octets of the line are there, all of `line`
-// where it is too long; `lines` have been read. A line is open until its end has come, and the input may have ended before.
+// Where the reading is: what was read and not yet taken is from `from` to `to`; `length` octets of the line are there, as many as
+// there is room for where it is too long; `lines` is its number. It is open until its end has come, or that of the input.
 pub struct Reader {
     pub from: usize,
     pub to: usize,
@@ -75,8 +75,8 @@ pub fn fewer(turns: u64, done: bool) -> u64
     turns - 1
 }
 
-// The next line; a last line may be without its newline. A proved loop has to end, and nothing says that the line does: so the loop
-// counts its turns down, from a number that no run uses up.
+// The next line; a last line may be without its newline. A proved loop has to end, and nothing says that the line does: so the
+// loop counts its turns down, from a number that no run uses up.
 pub fn next(input: &mut [u8], line: &mut [u8], begun: Reader) -> Reader {
     let mut at = begun;
     at.length = 0;

@@ -1,8 +1,8 @@
 // Why a packet is not answered, by the packet and by what was being gathered before and is being gathered after it.
-use crate::notes::sentence;
 use replay_answers::octs::pair;
 use replay_answers::says::fill;
 use replay_answers::says::say;
+use replay_answers::says::sentence;
 use replay_script::numbers::wide;
 
 // Label, message type, packet type: the parts of a packet's first octet.
