@@ -49,6 +49,7 @@ fn change(
         b'd' => events::happen(kept, book, saved, before, Event::Down(seid), notes::NO_CHANNEL),
         b'l' => events::happen(kept, book, saved, before, Event::Lost, notes::NO_CHANNEL),
         b'w' => overwrites::record(kept, saved, numbers, octets),
+        b'i' => overwrites::count(saved, numbers),
         b'n' => overwrites::no_gathering(saved),
         b'g' => overwrites::gathering(saved, numbers, octets),
         _ => why,
@@ -61,6 +62,7 @@ fn ask<'a>(step: u8, numbers: [usize; 6], octets: &[u8], kept: Kept, book: &'a [
     match step {
         b'q' => questions::settings(kept, book, saved, seid),
         b't' => questions::delay(kept, book, saved, seid),
+        b'j' => questions::status(kept, book, saved, seid),
         b'e' => questions::states(kept, saved),
         b'c' => questions::cut(kept, numbers, octets),
         _ => {}
@@ -82,7 +84,7 @@ pub fn complain(explains: bool, k: usize, why: u8) {
 fn serve(k: usize, line: Line, octets: &[u8], kept: Kept, book: &mut [u8], saved: &mut [u8]) -> Kept {
     let numbers = line.numbers;
     ask(line.step, numbers, octets, kept, front(book, kept.book), saved);
-    let mut before = [0u8; 1800];
+    let mut before = [0u8; 1801];
     lay(&mut before, 0, saved);
     let why = change(line.why, line.step, numbers, octets, kept, front(book, kept.book), &before, saved);
     complain(kept.explains, k, why);

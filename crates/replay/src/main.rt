@@ -40,7 +40,7 @@ fn main() {
     let mut input = [0u8; 16384];
     let mut line = [0u8; 8192];
     let mut book = [0u8; 2730];
-    let mut saved = [0u8; 1800];
-    let kept = Kept { book: 0, records: 0, lent: 0, size: 672, area: 64, explains: false };
+    let mut saved = [0u8; 1801];
+    let kept = Kept { book: 0, records: 0, size: 672, area: 64, explains: false };
     replay(&mut input, &mut line, kept, &mut book, &mut saved);
 }

@@ -4,8 +4,6 @@ pub struct Kept {
     pub book: usize,
     // how many records the saved connection has
     pub records: usize,
-    // how many octets of the saved area are lent to the bridge
-    pub lent: usize,
     // the packet size
     pub size: usize,
     // the length of the reply area

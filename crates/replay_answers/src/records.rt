@@ -11,11 +11,19 @@ use crate::says::say_octets;
 use replay_script::lines::rest;
 use replay_script::numbers::wide;
 use replay_script::reading::DASH;
-
-// Where the records begin, and how long one is.
-pub const FIRST: usize = 520;
-
-pub const ROOM: usize = 80;
+use rules::layout::CHANNEL;
+use rules::layout::CONFIG_LENGTH;
+use rules::layout::COUNT;
+use rules::layout::DELAY_HIGH;
+use rules::layout::DELAY_LOW;
+use rules::layout::DELAY_MARK;
+use rules::layout::FAR;
+use rules::layout::HEAD;
+use rules::layout::LINK;
+use rules::layout::RECORD;
+use rules::layout::RECORDS;
+use rules::layout::SEID;
+use rules::layout::STATE;
 
 // The place of record i; behind every area where a connection cannot have it.
 fn place(i: usize) -> usize
@@ -24,20 +32,25 @@ fn place(i: usize) -> usize
     if 15 < i {
         return 65536;
     }
-    FIRST + ROOM * i
+    RECORDS + RECORD * i
+}
+
+// The link part, which holds the gathering.
+pub fn link(saved: &[u8]) -> &[u8] {
+    front(rest(saved, COUNT), LINK)
 }
 
 // Record i, empty where the area does not have it.
 pub fn record(saved: &[u8], i: usize) -> &[u8] {
-    front(rest(saved, place(i)), ROOM)
+    front(rest(saved, place(i)), RECORD)
 }
 
 // Whether a record is there and has this SEID.
 fn has(slot: &[u8], seid: u8) -> bool {
-    if slot.len() != ROOM {
+    if slot.len() != RECORD {
         return false;
     }
-    slot[0] == seid
+    slot[SEID] == seid
 }
 
 // The index of the record of a SEID among the first `records`; 16 where there is none.
@@ -54,14 +67,14 @@ pub fn find(saved: &[u8], records: usize, seid: u8) -> usize {
 
 // The configuration of a record.
 pub fn config(slot: &[u8]) -> &[u8] {
-    if slot.len() != ROOM {
+    if slot.len() != RECORD {
         return &slot[0..0];
     }
-    front(&slot[8..72], wide(slot[7]))
+    front(&slot[HEAD..RECORD], wide(slot[CONFIG_LENGTH]))
 }
 
 // The names of a state and of a channel.
-fn say_names(state: u8, channel: u8) {
+pub fn say_names(state: u8, channel: u8) {
     phrase(b"\x00: idle\n\x01: configured\n\x02: open\n\x03: streaming\n\x04: closing\n\x05: aborting\n", state, 0, 0);
     phrase(b"\x00: none\n\x01: awaited\n\x02: up\n", channel, 0, 0);
 }
@@ -86,13 +99,13 @@ fn say_config(config: &[u8]) {
 
 // One record: SEID STATE CHANNEL FAR DELAY CONFIG.
 fn show(slot: &[u8]) {
-    if slot.len() != ROOM {
+    if slot.len() != RECORD {
         return;
     }
-    fill(b"$", wide(slot[0]), 0);
-    say_names(slot[1], slot[2]);
-    fill(b" $ ", wide(slot[3]), 0);
-    say_delay(slot[4], pair(slot[5], slot[6]));
+    fill(b"$", wide(slot[SEID]), 0);
+    say_names(slot[STATE], slot[CHANNEL]);
+    fill(b" $ ", wide(slot[FAR]), 0);
+    say_delay(slot[DELAY_MARK], pair(slot[DELAY_HIGH], slot[DELAY_LOW]));
     say_config(config(slot));
 }
 
@@ -139,8 +152,8 @@ pub fn write(
         octet(tenths(delay)),
         octet(config.len()),
     ];
-    lay(saved, at + 1, &head);
-    lay(saved, at + 8, config);
+    lay(saved, at + STATE, &head);
+    lay(saved, at + HEAD, config);
 }
 
 // Overwrites the gathering: its label, message type, signal, count and parts, and its payload.
@@ -156,6 +169,6 @@ pub fn write_gathering(saved: &mut [u8], numbers: [usize; 6], payload: &[u8]) {
         octet(length / 256),
         octet(length),
     ];
-    lay(saved, 0, &head);
-    lay(saved, 8, payload);
+    lay(saved, COUNT, &head);
+    lay(saved, COUNT + 8, payload);
 }

@@ -16,8 +16,10 @@ stepTable = linesOf (
     "lost:l+." ∷
     "settings:q+.o" ∷
     "delay:t+.o" ∷
+    "status:j+.o" ∷
     "states:e+." ∷
     "record:w+koscod" ∷
+    "count:i+.o" ∷
     "gathering none:n+." ∷
     "gathering:g+pooooo" ∷
     "cut:c-*nooonn" ∷

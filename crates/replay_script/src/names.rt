@@ -5,7 +5,7 @@ use crate::tables::value;
 
 // The steps. Under a step's name stand its letter, by which `replay` finds its function; `+` where it needs a book, `-` where not;
 // then letters of `reading`: one for what stands at its end, and one for each word before that. A name may have several words.
-pub const STEPS: [u8; 193] = *b"book:b-*\n\
+pub const STEPS: [u8; 216] = *b"book:b-*\n\
     rebook:r+*\n\
     size:s-.n\n\
     area:a-.n\n\
@@ -15,8 +15,10 @@ pub const STEPS: [u8; 193] = *b"book:b-*\n\
     lost:l+.\n\
     settings:q+.o\n\
     delay:t+.o\n\
+    status:j+.o\n\
     states:e+.\n\
     record:w+koscod\n\
+    count:i+.o\n\
     gathering none:n+.\n\
     gathering:g+pooooo\n\
     cut:c-*nooonn\n\

@@ -3,6 +3,7 @@ use replay_answers::kept::Kept;
 use replay_answers::octs::front;
 use replay_answers::octs::pair;
 use replay_answers::octs::within;
+use replay_answers::records::link;
 use replay_answers::says;
 use replay_answers::says::answer;
 use replay_answers::says::answer_with;
@@ -13,6 +14,7 @@ use replay_words::changes;
 use replay_words::notes;
 use replay_words::outcomes;
 use rules::Told;
+use rules::layout::LINK;
 
 // A line for each packet of a reply.
 fn say_reply(size: usize, label: u8, kind: u8, signal: u8, payload: &[u8]) {
@@ -59,13 +61,13 @@ fn carried(packet: &[u8]) -> &[u8] {
 
 // The payload that was gathered before a packet, where it completed a message of several packets.
 fn gathered<'a>(packet: &[u8], gathering: &'a [u8]) -> &'a [u8] {
-    if gathering.len() < 520 {
+    if gathering.len() < LINK {
         return &gathering[0..0];
     }
     if single(packet) {
         return &gathering[0..0];
     }
-    front(&gathering[8..520], pair(gathering[6], gathering[7]))
+    front(&gathering[8..LINK], pair(gathering[6], gathering[7]))
 }
 
 // What a packet's answer means, if that is asked for.
@@ -78,18 +80,17 @@ fn explain(kept: Kept, told: Told, packet: &[u8], before: &[u8], saved: &[u8], r
         return;
     }
     if told.kind == 0 {
-        replay_silences::silent(kept.size, packet, before, saved);
+        replay_silences::silent(kept.size, packet, link(before), link(saved));
         return;
     }
-    outcomes::reply(told.kind, told.signal, gathered(packet, before), carried(packet), reply);
+    outcomes::reply(told.kind, told.signal, gathered(packet, link(before)), carried(packet), reply);
     changes::all(before, saved, kept.records);
 }
 
 // Hands a packet to the bridge.
 fn receive(kept: Kept, book: &[u8], saved: &mut [u8], packet: &[u8], area: &mut [u8]) -> Told {
-    let lent = within(kept.lent, saved);
     let room = within(kept.area, area);
-    bridge::packet(book, kept.size, &mut saved[0..lent], packet, &mut area[0..room])
+    bridge::packet(book, kept.size, saved, packet, &mut area[0..room])
 }
 
 // packet HEX..; `before` is what was saved before it.

@@ -1,7 +1,6 @@
 // book and rebook.
 use replay_answers::kept::Kept;
 use replay_answers::octs::lay;
-use replay_answers::records;
 use replay_answers::says;
 use replay_answers::says::answer;
 use replay_script::numbers::wide;
@@ -13,18 +12,6 @@ fn entries(book: &[u8]) -> usize {
         return 0;
     }
     wide(book[5])
-}
-
-// How many octets of the saved area are lent under a book with so many entries: a connection has one record for each entry, and
-// one with another number of records is lent as nothing, since its octets alone do not tell.
-fn lent(records: usize, entries: usize) -> usize {
-    if 16 < entries {
-        return 0;
-    }
-    if records != entries {
-        return 0;
-    }
-    records::FIRST + records::ROOM * entries
 }
 
 // Answers, and keeps a book that was accepted over a connection of so many records.
@@ -40,7 +27,6 @@ fn adopt(kept: Kept, number: u8, good: u8, records: usize, given: &[u8], book: &
     let mut next = kept;
     next.book = given.len();
     next.records = records;
-    next.lent = lent(records, entries(given));
     next
 }
 

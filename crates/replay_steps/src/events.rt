@@ -1,6 +1,5 @@
 // up, down and lost: what the host tells of the link.
 use replay_answers::kept::Kept;
-use replay_answers::octs::within;
 use replay_answers::says;
 use replay_answers::says::answer;
 use replay_answers::says::say;
@@ -26,8 +25,7 @@ fn explain(kept: Kept, number: u8, ten: u8, before: &[u8], saved: &[u8]) {
 
 // `before` is what was saved before the event.
 pub fn happen(kept: Kept, book: &[u8], saved: &mut [u8], before: &[u8], event: Event, ten: u8) -> u8 {
-    let lent = within(kept.lent, saved);
-    let number = bridge::event(book, &mut saved[0..lent], event);
+    let number = bridge::event(book, saved, event);
     answer(says::EVENT, wide(number), 0);
     explain(kept, number, ten, before, saved);
     FINE

@@ -1,9 +1,11 @@
-// record and gathering: what is saved, overwritten and unchecked.
+// record, count and gathering: what is saved, overwritten and unchecked.
 use replay_answers::kept::Kept;
+use replay_answers::octs::lay;
 use replay_answers::octs::octet;
 use replay_answers::records;
 use replay_script::reading::FINE;
 use replay_script::reading::ODD;
+use rules::layout::COUNT;
 
 // record SEID STATE CHANNEL FAR DELAY CONFIG; not understood where no saved record has the SEID.
 pub fn record(kept: Kept, saved: &mut [u8], numbers: [usize; 6], config: &[u8]) -> u8 {
@@ -15,11 +17,15 @@ pub fn record(kept: Kept, saved: &mut [u8], numbers: [usize; 6], config: &[u8]) 
     FINE
 }
 
+// count N
+pub fn count(saved: &mut [u8], numbers: [usize; 6]) -> u8 {
+    lay(saved, 0, &[octet(numbers[0])]);
+    FINE
+}
+
 // gathering none
 pub fn no_gathering(saved: &mut [u8]) -> u8 {
-    if 0 < saved.len() {
-        saved[0] = 0;
-    }
+    lay(saved, COUNT, &[0]);
     FINE
 }
 

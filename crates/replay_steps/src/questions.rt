@@ -1,4 +1,4 @@
-// settings, delay, states and cut: what the host may ask, what is saved, and one packet of a message.
+// settings, delay, status, states and cut: what the host may ask, what is saved, and one packet of a message.
 use replay_answers::kept::Kept;
 use replay_answers::octs::front;
 use replay_answers::octs::octet;
@@ -7,10 +7,13 @@ use replay_answers::records;
 use replay_answers::says;
 use replay_answers::says::answer;
 use replay_answers::says::answer_with;
+use replay_answers::says::fill;
 use replay_script::numbers::wide;
 use replay_words::notes;
 use rules::OurSeid;
 use rules::Piece;
+use saved::records::channel_octet;
+use saved::records::state_octet;
 
 // The key of what settings are: the configuration of an endpoint that has one, or what it offers.
 fn settings_key(saved: &[u8], seid: u8) -> u8 {
@@ -23,11 +26,10 @@ fn settings_key(saved: &[u8], seid: u8) -> u8 {
 
 // settings SEID
 pub fn settings<'a>(kept: Kept, book: &'a [u8], saved: &'a [u8], seid: u8) {
-    let lent = front(saved, kept.lent);
-    let number = bridge::settings_told(book, lent, OurSeid(seid));
-    answer_with(says::SETTINGS, wide(number), 0, bridge::settings(book, lent, OurSeid(seid)));
+    let number = bridge::settings_told(book, saved, OurSeid(seid));
+    answer_with(says::SETTINGS, wide(number), 0, bridge::settings(book, saved, OurSeid(seid)));
     if kept.explains {
-        notes::note(number, notes::NO_ENDPOINT, settings_key(lent, seid), 0, 0);
+        notes::note(number, notes::NO_ENDPOINT, settings_key(saved, seid), 0, 0);
     }
 }
 
@@ -41,7 +43,7 @@ fn either(reported: bool, yes: u8, no: u8) -> u8 {
 
 // delay SEID
 pub fn delay(kept: Kept, book: &[u8], saved: &[u8], seid: u8) {
-    let heard = bridge::delay(book, front(saved, kept.lent), OurSeid(seid));
+    let heard = bridge::delay(book, saved, OurSeid(seid));
     let tenths = heard.tenths as usize;
     answer(either(heard.reported, says::REPORTED, says::UNREPORTED), wide(heard.number), tenths);
     if kept.explains {
@@ -50,11 +52,26 @@ pub fn delay(kept: Kept, book: &[u8], saved: &[u8], seid: u8) {
     }
 }
 
+// status SEID
+pub fn status(kept: Kept, book: &[u8], saved: &[u8], seid: u8) {
+    let told = bridge::status(book, saved, OurSeid(seid));
+    let number = told.number;
+    let state = told.state;
+    let channel = told.channel;
+    let far = told.far.0;
+    fill(b"status $", wide(number), 0);
+    records::say_names(state_octet(state), channel_octet(channel));
+    fill(b" $\n", wide(far), 0);
+    if kept.explains {
+        notes::note(number, notes::NO_ENDPOINT, notes::STANDS, 0, 0);
+    }
+}
+
 // states
 pub fn states(kept: Kept, saved: &[u8]) {
     records::show_all(saved, kept.records);
     if kept.explains {
-        replay_silences::gathering(saved);
+        replay_silences::gathering(records::link(saved));
     }
 }
 

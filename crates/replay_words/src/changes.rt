@@ -1,12 +1,12 @@
 // What a packet or an event has changed: the saved records before it and after it, compared.
 use replay_answers::octs::pair;
-use replay_answers::records::ROOM;
 use replay_answers::records::record;
 use replay_answers::says::fill;
 use replay_answers::says::phrase;
 use replay_answers::says::say;
 use replay_answers::says::sentence;
 use replay_script::numbers::wide;
+use rules::layout::RECORD;
 
 // An octet that has a name, from a table of names.
 fn renamed(seid: usize, table: &[u8], from: u8, to: u8) -> bool {
@@ -55,10 +55,10 @@ fn either(a: bool, b: bool) -> bool {
 
 // One record: whether anything of it has changed.
 fn changed(before: &[u8], after: &[u8]) -> bool {
-    if before.len() != ROOM {
+    if before.len() != RECORD {
         return false;
     }
-    if after.len() != ROOM {
+    if after.len() != RECORD {
         return false;
     }
     let seid = wide(after[0]);

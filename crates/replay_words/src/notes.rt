@@ -21,6 +21,8 @@ pub const REPORTED: u8 = b'r';
 
 pub const UNREPORTED: u8 = b'n';
 
+pub const STANDS: u8 = b's';
+
 pub const PACKET_OF: u8 = b'p';
 
 // The key of a number: `ten` for number 10, `good` for 0, and a letter of its own for any other.
@@ -55,6 +57,7 @@ pub fn note(number: u8, ten: u8, good: u8, a: usize, b: usize) {
         o:what the endpoint offers in the book; it has no configuration\n\
         r:the far end reported a delay of $.$ ms\n\
         n:the far end reported no delay for this endpoint\n\
+        s:how the endpoint stands: its state, its channel and the far end's SEID, 0 where there is none\n\
         p:packet number $, counted from 0, of $\n",
         key(number, ten, good),
         a,
