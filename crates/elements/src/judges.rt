@@ -123,8 +123,8 @@ pub fn judged(rule: Rule, caps: &[u8], marks: Marks, category: u8, value: &[u8])
 {
     match rule {
         Rule::Offer { media } => offer_code(media, marks, category, value),
-        Rule::Setting => item_code(rule, caps, marks, category, value),
-        Rule::Reconfiguring => item_code(rule, caps, marks, category, value),
+        Rule::Setting => item_code(Rule::Setting, caps, marks, category, value),
+        Rule::Reconfiguring => item_code(Rule::Reconfiguring, caps, marks, category, value),
     }
 }
 

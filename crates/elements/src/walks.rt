@@ -44,11 +44,15 @@ pub fn walk(rule: Rule, caps: &[u8], list: &[u8], at: usize, marks: Marks) -> Wa
 {
     let element = element_at(list, at);
     match element {
-        Element::End => ended(rule, marks),
-        Element::Short { category } => Walked::Failed(Fault {
-            category,
-            code: short_code(rule),
-        }),
+        Element::End => {
+            return ended(rule, marks);
+        }
+        Element::Short { category } => {
+            return Walked::Failed(Fault {
+                category,
+                code: short_code(rule),
+            });
+        }
         Element::Whole {
             category,
             length,

@@ -1,24 +1,11 @@
 -- `judged` meets its contract: each arm is the judge of its rule.
 use borrow.Author.Needs.{needs}
-use Prim.Native.Nat.{ℕ}
-use mathlib.Core.Path.{_≡_, sym, ap, subst, _∙_}
-use mathlib.Core.List.{List}
-use Rattle.rules.specs.Elements.{Item, whole, items, itemCode, judge}
-use Rattle.rules.specs.declared.Rule.{Rule}
-use Rattle.rules.specs.declared.Rule.the-variants.{Setting, Reconfiguring}
+use mathlib.Core.Path.{sym, ap, subst, _∙_}
+use Rattle.rules.specs.Elements.{whole, items, judge}
 use Rattle.elements.specs.Marks.{seenIn}
 use Rattle.elements.specs.Walks.{MediaFits}
 use Rattle.elements.proofs.judges.judged.Statement.{statement}
 use Rattle.elements.proofs.judges.judged.Tie as tie
-
-module _ (caps : List Item) (seen : List ℕ) (i : Item) {rule : Rule} where
-  sets : rule ≡ Setting → itemCode rule caps seen i ≡ judge rule caps seen i
-  unfolding judge
-  sets e = rw e
-
-  renews : rule ≡ Reconfiguring → itemCode rule caps seen i ≡ judge rule caps seen i
-  unfolding judge
-  renews e = rw e
 
 enum-known-rule : tie.Need-enum-known-rule
 enum-known-rule c = search needs
@@ -49,18 +36,20 @@ returns c =
         (sym (c .before .before .rule .given .1))
 
 returns-2 : tie.Need-returns-2
+unfolding judge
 returns-2 c =
     let args = c .before .before .before .before .before .args in
     c .item-code .ensures
-    ∙ sets (items (args .caps .now)) (seenIn (args .marks)) (whole (args .category) (args .value .now))
-        (c .before .enum-told .given .1)
+    ∙ ap (λ r. judge r (items (args .caps .now)) (seenIn (args .marks)) (whole (args .category) (args .value .now)))
+        (sym (c .before .enum-told .given .1))
 
 returns-3 : tie.Need-returns-3
+unfolding judge
 returns-3 c =
     let args = c .before .before .before .before .before .args in
     c .item-code2 .ensures
-    ∙ renews (items (args .caps .now)) (seenIn (args .marks)) (whole (args .category) (args .value .now))
-        (c .before .enum-told2 .given .1)
+    ∙ ap (λ r. judge r (items (args .caps .now)) (seenIn (args .marks)) (whole (args .category) (args .value .now)))
+        (sym (c .before .enum-told2 .given .1))
 
 pub judged-spec : {M : Type 1} → statement M
 judged-spec =

@@ -58,10 +58,26 @@ pub +walk-spec : {M : Type 1} → statement M
     (λ c. c .match .keys1)
     -- what `ended` requires
     (λ c κs. c .before .before .before .before .before .pre .1 .2)
+    -- nothing more
+    (λ c.
+      let place = c .before in
+      let looked = place .before .before in
+      let args = looked .before .before .before .args in
+      c .ended .ensures
+      ∙ walk-end (args .rule) (items (args .caps .now)) (args .list .now) (args .at) (args .marks)
+          (sym (place .enum-told .given .1) ∙ looked .element-at .ensures))
     -- the second arm
     (λ c. c .match .keys2)
     -- what `short_code` requires
     (λ c κs. tt)
+    -- an element cut short
+    (λ c.
+      let place = c .before .before in
+      let looked = place .before .before in
+      let args = looked .before .before .before .args in
+      ap (λ (n : ℕ). Failed (record { category = place .element .given .0 .0; code = n })) (c .short-code .ensures)
+      ∙ walk-short (args .rule) (items (args .caps .now)) (args .list .now) (args .at) (args .marks) _
+          (sym (place .element .given .1) ∙ looked .element-at .ensures))
     -- the third arm
     (λ c. c .match .keys3)
     -- what `part` requires
@@ -112,22 +128,6 @@ pub +walk-spec : {M : Type 1} → statement M
             (judged .before .part .ensures) (judged .judged .result) (judged .judged .ensures) (c .before .if1 .left) in
       ( omega (arith, start .pre .0, there .2, there .3),
         (start .pre .1 .0, start .pre .1 .1, subst LastMarked (sym (c .passed .ensures)) last)))
-    -- nothing more
-    (λ c.
-      let place = c .before in
-      let looked = place .before .before in
-      let args = looked .before .before .before .args in
-      c .ended .ensures
-      ∙ walk-end (args .rule) (items (args .caps .now)) (args .list .now) (args .at) (args .marks)
-          (sym (place .enum-told .given .1) ∙ looked .element-at .ensures))
-    -- an element cut short
-    (λ c.
-      let place = c .before .before in
-      let looked = place .before .before in
-      let args = looked .before .before .before .args in
-      ap (λ (n : ℕ). Failed (record { category = place .element .given .0 .0; code = n })) (c .short-code .ensures)
-      ∙ walk-short (args .rule) (items (args .caps .now)) (args .list .now) (args .at) (args .marks) _
-          (sym (place .element .given .1) ∙ looked .element-at .ensures))
     -- the rest decides
     (λ c.
       let judged = c .before .before .before in
