@@ -37,7 +37,8 @@ fn ended(rule: Rule, marks: Marks) -> Walked
     Walked::Clean(marks)
 }
 
-// The list from `at` on, after the elements that have these marks.
+// The list from `at` on, after the elements that have these marks. Where it ends, it returns at once: as the value of the `match`
+// the answer would be put together piece by piece at every turn.
 pub fn walk(rule: Rule, caps: &[u8], list: &[u8], at: usize, marks: Marks) -> Walked
     requires { ⌜ (length (now list) ≤ 65535) × MediaFits rule × LastMarked marks ⌝ }
     ensures { λ r. ⌜ r ≡ walkOf rule (items (now (caps .entry))) (now (list .entry)) at marks ⌝ }
