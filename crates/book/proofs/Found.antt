@@ -1,5 +1,5 @@
--- The laws of a SEID's place: entry by entry, the walk over places is `find` over the entries, and of a right book the list of the
--- entry that is found lies inside it.
+-- The laws of a SEID's place: entry by entry, the walk over places is `find` over the entries, and of a right book the list of
+-- the entry that is found lies inside it.
 use Prim.Native.Nat.{ℕ, zero, suc, _+_, _≤_, _<_}
 use native.Mathlib.Nat.{add-zero, zero-add}
 use native.Mathlib.Numerals.{add-one}
@@ -12,20 +12,21 @@ use lib.Seq.{getD-drop, drop-drop}
 use lib.Dec.{eqb}
 use borrow.Author.Tests.{eqb-true, eq-eqb, ne-eqb}
 use Rattle.rules.specs.Book.{Entry, Found, unknown, known, later, find, kindRight, bookNumber, entriesIn, bookOf}
-use Rattle.rules.specs.Walks.{placeFrom, placeIn, foundBy}
 use Rattle.rules.specs.declared.OurSeid.{OurSeid}
-use Rattle.rules.specs.declared.Place.{Place}
-use Rattle.rules.specs.declared.Place.the-variants.{Unknown, Known}
 use Rattle.rules.proofs.Tests.{Told?, told, passed, failed}
 use Rattle.rules.proofs.RightBook.{entryRight, right-book}
 use Rattle.rules.proofs.Places.{At, find-known, at-inside}
 use Rattle.rules.proofs.ShortReplies.{entry-at}
+use Rattle.book.specs.Places.{knownAt, placeFrom, placeIn, foundBy}
+use Rattle.book.specs.declared.places.Place.{Place}
+use Rattle.book.specs.declared.places.Located.{Located}
+use Rattle.book.specs.declared.places.Located.the-variants.{Unknown}
 use Rattle.book.proofs.Entries.{RightEntry, RightEntries, first-entry, other-entries, right-head}
 
 -- ---- A turn of the walk
 
 module _ (n left : ℕ) (s : OurSeid) (b : List ℕ) (at i : ℕ) (e : left ≡ suc n) where
-  pub place-here : getD b at 0 ≡ s .0 → placeFrom left s b at i ≡ Known i (getD b (at + 1) 0) (at + 3) (getD b (at + 2) 0)
+  pub place-here : getD b at 0 ≡ s .0 → placeFrom left s b at i ≡ knownAt i (getD b (at + 1) 0) (at + 3) (getD b (at + 2) 0)
   unfolding placeFrom
   place-here h = rw (e, eq-eqb (getD b at 0) (s .0) h)
 
@@ -86,8 +87,8 @@ found-in : (s : OurSeid) (b : List ℕ) → foundBy s (placeIn s b) b ≡ find s
 unfolding placeIn bookOf
 found-in s b = found-from (getD b 5 0) s b 6 0 ∙ counted-none _
 
-pub found-as : (s : OurSeid) (b : List ℕ) (p : Place) → placeIn s b ≡ p → find s (bookOf b) ≡ foundBy s p b
-found-as s b p e = sym (found-in s b) ∙ ap (λ (x : Place). foundBy s x b) e
+pub found-as : (s : OurSeid) (b : List ℕ) (p : Located) → placeIn s b ≡ p → find s (bookOf b) ≡ foundBy s p b
+found-as s b p e = sym (found-in s b) ∙ ap (λ (x : Located). foundBy s x b) e
 
 -- ---- What a place says of a right book
 
@@ -97,17 +98,21 @@ record Lies (b : List ℕ) (kind from size : ℕ) : Type 0 where
   short : size ≤ 64
   kinded : kindRight kind ≡ true
 
+abbrev placeOf : ℕ → ℕ → ℕ → ℕ → Place
+placeOf i kind from size = record { index = i; kind = kind; from = from; size = size }
+
 lies-here : (b : List ℕ) (at i j kind from size : ℕ) → RightEntry b at
-    → Known i (getD b (at + 1) 0) (at + 3) (getD b (at + 2) 0) ≡ Known j kind from size → Lies b kind from size
+    → knownAt i (getD b (at + 1) 0) (at + 3) (getD b (at + 2) 0) ≡ knownAt j kind from size → Lies b kind from size
 lies-here b at i j kind from size r e =
-    let p : getD b (at + 1) 0 ≡ kind = cc in
-    let q : at + 3 ≡ from = cc in
-    let z : getD b (at + 2) 0 ≡ size = cc in
+    let same : placeOf i (getD b (at + 1) 0) (at + 3) (getD b (at + 2) 0) ≡ placeOf j kind from size = cc in
+    let p : getD b (at + 1) 0 ≡ kind = ap (λ (x : Place). x .kind) same in
+    let q : at + 3 ≡ from = ap (λ (x : Place). x .from) same in
+    let z : getD b (at + 2) 0 ≡ size = ap (λ (x : Place). x .size) same in
     record { inside = omega arith; short = omega arith; kinded = ap kindRight (sym p) ∙ r .kind }
 
 lies-turn : (n : ℕ) (s : OurSeid) (b : List ℕ) (at i j kind from size : ℕ) → Told? (eqb (getD b at 0) (s .0))
-    → ((at′ i′ : ℕ) → RightEntries n b at′ → placeFrom n s b at′ i′ ≡ Known j kind from size → Lies b kind from size)
-    → RightEntries (suc n) b at → placeFrom (suc n) s b at i ≡ Known j kind from size → Lies b kind from size
+    → ((at′ i′ : ℕ) → RightEntries n b at′ → placeFrom n s b at′ i′ ≡ knownAt j kind from size → Lies b kind from size)
+    → RightEntries (suc n) b at → placeFrom (suc n) s b at i ≡ knownAt j kind from size → Lies b kind from size
 unfolding placeFrom
 lies-turn n s b at i j kind from size (passed t) k r e =
     lies-here b at i j kind from size (first-entry n (suc n) b at refl r) (rw t at e)
@@ -115,7 +120,7 @@ lies-turn n s b at i j kind from size (failed f) k r e =
     k (at + 3 + getD b (at + 2) 0) (suc i) (other-entries n (suc n) b at refl r) (rw f at e)
 
 lies-from : (n : ℕ) (s : OurSeid) (b : List ℕ) (at i j kind from size : ℕ) → RightEntries n b at
-    → placeFrom n s b at i ≡ Known j kind from size → Lies b kind from size
+    → placeFrom n s b at i ≡ knownAt j kind from size → Lies b kind from size
 unfolding placeFrom
 lies-from zero s b at i j kind from size r e = let z : _≡_ {A = ℕ} 0 1 = cc in absurd (omega arith)
 lies-from (suc n) s b at i j kind from size r e =
@@ -130,12 +135,12 @@ pub record Placed (s : OurSeid) (b : List ℕ) (i kind from size : ℕ) : Type 0
   pub short : size ≤ 64
   pub kinded : kindRight kind ≡ true
 
-pub placed : (s : OurSeid) (b : List ℕ) (i kind from size : ℕ) → bookNumber b ≡ 0 → placeIn s b ≡ Known i kind from size
+pub placed : (s : OurSeid) (b : List ℕ) (i kind from size : ℕ) → bookNumber b ≡ 0 → placeIn s b ≡ knownAt i kind from size
     → Placed s b i kind from size
 unfolding placeIn foundBy
 placed s b i kind from size h e =
     let lies = lies-from (getD b 5 0) s b 6 0 i kind from size (right-head b h .entries) e in
-    let found = find-known s (bookOf b) i (entryBy s b kind from size) (found-as s b (Known i kind from size) e) in
+    let found = find-known s (bookOf b) i (entryBy s b kind from size) (found-as s b (knownAt i kind from size) e) in
     record {
       place = found .place;
       counted = at-inside (found .place);

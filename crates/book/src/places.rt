@@ -1,11 +1,23 @@
 // Where a right book has a SEID, and how many entries it has.
 use rules::OurSeid;
-use rules::Place;
 
 ghost use mathlib.Core.Path.{_≡_};
 ghost use lib.ListN.{length};
 ghost use Rattle.rules.specs.Book.{bookNumber, bookOf};
-ghost use Rattle.rules.specs.Walks.{placeIn};
+ghost use Rattle.book.specs.Places.{placeIn};
+
+// The place of an entry: which one it is, counted from 0, its kind octet, and where its list begins and how long it is.
+pub struct Place {
+    pub index: usize,
+    pub kind: u8,
+    pub from: usize,
+    pub size: usize,
+}
+
+pub enum Located {
+    Unknown,
+    Known(Place),
+}
 
 // The number of entries.
 pub fn count(book: &[u8]) -> usize
@@ -16,7 +28,7 @@ pub fn count(book: &[u8]) -> usize
 }
 
 // Which entry has the SEID, and where its list stands.
-pub fn place(book: &[u8], seid: OurSeid) -> Place
+pub fn locate(book: &[u8], seid: OurSeid) -> Located
     requires { ⌜ bookNumber (now book) ≡ 0 ⌝ }
     ensures { λ r. ⌜ r ≡ placeIn seid (now (book .entry)) ⌝ }
 {
@@ -28,15 +40,15 @@ pub fn place(book: &[u8], seid: OurSeid) -> Place
         let from = at + 3;
         if book[at] == seid.0 {
             let kind = book[at + 1];
-            return Place::Known {
+            return Located::Known(Place {
                 index,
                 kind,
                 from,
                 size,
-            };
+            });
         }
         at = from + size;
         index += 1;
     }
-    Place::Unknown
+    Located::Unknown
 }

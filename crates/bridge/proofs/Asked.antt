@@ -8,7 +8,6 @@ use lib.ListN.{length}
 use borrow.Author.Tests.{ne-eqb}
 use Rattle.rules.specs.Octets.{if_then_else_, isEmpty}
 use Rattle.rules.specs.Book.{bookOf}
-use Rattle.rules.specs.Walks.{placeIn, foundBy}
 use Rattle.rules.specs.Endpoints.{Endpoint, endAt}
 use Rattle.rules.specs.Saved.{recordRoom, configRoom, recordsOf, endsIn, connectionIn}
 use Rattle.rules.specs.Host.{refusalOf, settingsOf, Shown, shownAt, settingsCall, heard, heardAt, delayCall}
@@ -18,8 +17,9 @@ use Rattle.rules.specs.declared.OurSeid.{OurSeid}
 use Rattle.rules.specs.declared.Delay.the-variants.{Unreported}
 use Rattle.rules.specs.declared.Heard.{Heard as HeardBy}
 use Rattle.rules.specs.declared.Standing.{Standing}
-use Rattle.rules.specs.declared.Place.the-variants.{Unknown, Known}
 use Rattle.octets.specs.Patch.{part}
+use Rattle.book.specs.Places.{knownAt, placeIn, foundBy}
+use Rattle.book.specs.declared.places.Located.the-variants.{Unknown}
 use Rattle.book.proofs.Found.{entryBy, found-as, Placed, placed}
 use Rattle.saved.specs.Records.{loaded, endpointOf, recordAt, configSizeAt, configAt}
 use Rattle.saved.specs.declared.records.Endpoint.{Endpoint as Head}
@@ -59,7 +59,7 @@ module _ (book saved : List ℕ) (s : OurSeid) where
     unfolding delayCall heardAt foundBy
     missing-heard r e said = said ∙ rw (calm .allowed, found-as s book Unknown e)
 
-    pub there-shown : (i kind from size : ℕ) → placeIn s book ≡ Known i kind from size
+    pub there-shown : (i kind from size : ℕ) → placeIn s book ≡ knownAt i kind from size
       → settingsCall book saved s
         ≡ record {
             number = 0;
@@ -67,12 +67,12 @@ module _ (book saved : List ℕ) (s : OurSeid) where
               settingsOf (entryBy s book kind from size) (endAt (endsIn (length (bookOf book)) (recordsOf saved)) i)
           }
     unfolding settingsCall shownAt foundBy connectionIn
-    there-shown i kind from size e = rw (calm .allowed, found-as s book (Known i kind from size) e)
+    there-shown i kind from size e = rw (calm .allowed, found-as s book (knownAt i kind from size) e)
 
-    there-heard : (i kind from size : ℕ) → placeIn s book ≡ Known i kind from size
+    there-heard : (i kind from size : ℕ) → placeIn s book ≡ knownAt i kind from size
       → delayCall book saved s ≡ heard 0 (endAt (endsIn (length (bookOf book)) (recordsOf saved)) i .delay)
     unfolding delayCall heardAt foundBy connectionIn
-    there-heard i kind from size e = rw (calm .allowed, found-as s book (Known i kind from size) e)
+    there-heard i kind from size e = rw (calm .allowed, found-as s book (knownAt i kind from size) e)
 
     there-stands : (i kind from size : ℕ) → placeIn s book ≡ Known i kind from size
       → statusCall book saved s ≡ standing 0 (endAt (endsIn (length (bookOf book)) (recordsOf saved)) i)

@@ -5,12 +5,12 @@ mod refusals;
 mod delays;
 mod standings;
 
+use book::places::Located;
 use rules::Delay;
 use rules::Event;
 use rules::Heard;
 use rules::OurSeid;
 use rules::Piece;
-use rules::Place;
 use rules::Standing;
 use rules::Told;
 use rules::layout::COUNT;
@@ -86,18 +86,14 @@ pub fn settings<'a>(book: &'a [u8], saved: &'a [u8], seid: OurSeid) -> &'a [u8]
     if refusals::refusal(book, saved) != 0 {
         return &book[0..0];
     }
-    let place = book::places::place(book, seid);
-    match place {
-        Place::Unknown => &book[0..0],
-        Place::Known {
-            index,
-            kind: _,
-            from,
-            size,
-        } => {
+    let located = book::places::locate(book, seid);
+    match located {
+        Located::Unknown => &book[0..0],
+        Located::Known(place) => {
+            let index = place.index;
             let config = saved::records::config(records_of(saved), index);
             if config.len() == 0 {
-                octets::part(book, from, size)
+                octets::part(book, place.from, place.size)
             } else {
                 config
             }
@@ -113,15 +109,10 @@ pub fn settings_told(book: &[u8], saved: &[u8], seid: OurSeid) -> u8
     if number != 0 {
         return number;
     }
-    let place = book::places::place(book, seid);
-    match place {
-        Place::Unknown => 10,
-        Place::Known {
-            index: _,
-            kind: _,
-            from: _,
-            size: _,
-        } => 0,
+    let located = book::places::locate(book, seid);
+    match located {
+        Located::Unknown => 10,
+        Located::Known(_) => 0,
     }
 }
 
@@ -133,15 +124,11 @@ pub fn delay(book: &[u8], saved: &[u8], seid: OurSeid) -> Heard
     if number != 0 {
         return delays::heard(number, Delay::Unreported);
     }
-    let place = book::places::place(book, seid);
-    match place {
-        Place::Unknown => delays::heard(10, Delay::Unreported),
-        Place::Known {
-            index,
-            kind: _,
-            from: _,
-            size: _,
-        } => {
+    let located = book::places::locate(book, seid);
+    match located {
+        Located::Unknown => delays::heard(10, Delay::Unreported),
+        Located::Known(place) => {
+            let index = place.index;
             let e = saved::records::get(records_of(saved), index);
             let delay = e.delay;
             delays::heard(0, delay)

@@ -1,6 +1,6 @@
 -- What stands at a place of a list: told by tests on numbers, as the code tells it; the facts of a whole element; and from it the
 -- items from there on. Each goes by what is left of the list there: nothing, one octet, or two and more.
-use Prim.Native.Nat.{ℕ, zero, suc, _+_, _-_, _≤_, _<_}
+use Prim.Native.Nat.{ℕ, suc, _+_, _-_, _≤_, _<_}
 use mathlib.Core.Path.{_≡_, refl, sym, ap, ap₂, _∙_, subst}
 use mathlib.Core.List.{List, [], _∷_}
 use native.Mathlib.Nat.{add-zero}

@@ -6,16 +6,16 @@ use mathlib.Core.List.{List, [], _∷_}
 use lib.ListN.{length, getD}
 use lib.Dec.{eqb}
 use Rattle.rules.specs.Octets.{if_then_else_}
-use Rattle.rules.specs.Walks.{placeIn}
 use Rattle.rules.specs.Saved.{recordsPlace, recordRoom, headRoom, stateOctet, channelOctet}
 use Rattle.rules.specs.Host.{Kept, freshCall, Answered, packetCall, eventCall, refusalOf, Shown, settingsCall, delayCall, cutCall}
 use Rattle.rules.specs.Host.{statusCall}
 use Rattle.rules.specs.declared.OurSeid.{OurSeid}
 use Rattle.rules.specs.declared.Event.{Event}
 use Rattle.rules.specs.declared.Event.the-variants.{Up, Down, Lost}
-use Rattle.rules.specs.declared.Place.{Place}
-use Rattle.rules.specs.declared.Place.the-variants.{Unknown, Known}
 use Rattle.octets.specs.Patch.{part}
+use Rattle.book.specs.Places.{placeIn}
+use Rattle.book.specs.declared.places.Located.{Located}
+use Rattle.book.specs.declared.places.Located.the-variants.{Unknown, Known}
 use Rattle.host.specs.declared.Answer.{Answer}
 use Rattle.host.specs.declared.Span.{Span}
 use Rattle.host.specs.declared.Lag.{Lag}
@@ -61,12 +61,12 @@ abbrev pub recordFrom : ℕ → ℕ
 recordFrom i = recordsPlace + i * recordRoom
 
 -- the configuration of record i where it has one, else the list of the book's entry
-unfoldable pub spanAt : Place → List ℕ → Span
+unfoldable pub spanAt : Located → List ℕ → Span
 spanAt Unknown saved = nowhereBy 10
-spanAt (Known i kind from size) saved =
-    let n = getD saved (recordFrom i + 7) 0 in
-    if eqb n 0 then record { number = 0; area = 1; offset = from; length = size }
-    else record { number = 0; area = 2; offset = recordFrom i + headRoom; length = n }
+spanAt (Known p) saved =
+    let n = getD saved (recordFrom (p .index) + 7) 0 in
+    if eqb n 0 then record { number = 0; area = 1; offset = p .from; length = p .size }
+    else record { number = 0; area = 2; offset = recordFrom (p .index) + headRoom; length = n }
 
 unfoldable pub spanCall : List ℕ → List ℕ → OurSeid → Span
 spanCall book saved s =

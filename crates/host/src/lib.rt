@@ -3,8 +3,8 @@
 // input.
 mod events;
 
+use book::places::Located;
 use rules::OurSeid;
-use rules::Place;
 use rules::layout::CONFIG_LENGTH;
 use rules::layout::HEAD;
 use rules::layout::RECORD;
@@ -116,23 +116,19 @@ pub extern "C" fn bawbeenor_settings(book: &[u8], saved: &[u8], seid: u8) -> Spa
     if number != 0 {
         return nowhere(number);
     }
-    let place = book::places::place(book, OurSeid(seid));
-    match place {
-        Place::Unknown => nowhere(10),
-        Place::Known {
-            index,
-            kind: _,
-            from,
-            size,
-        } => {
+    let located = book::places::locate(book, OurSeid(seid));
+    match located {
+        Located::Unknown => nowhere(10),
+        Located::Known(place) => {
+            let index = place.index;
             let head = RECORDS + index * RECORD;
             let length = saved[head + CONFIG_LENGTH] as usize;
             if length == 0 {
                 Span {
                     number: 0,
                     area: 1,
-                    offset: from,
-                    length: size,
+                    offset: place.from,
+                    length: place.size,
                 }
             } else {
                 Span {

@@ -2,8 +2,8 @@
 use Rattle.rules.specs.Octets.{between, sameOctets, member, isEmpty, some-of, each-of, front}
 use Rattle.rules.specs.Elements.{headed, itemsPast, element, categoryOf, lengthCode, bitsWithin, codecWithin, valueWithin}
 use Rattle.rules.specs.Elements.{offerable, mayFollow, startRight, offerCode, offersIn, offered, fixed, isStrange, itemCode}
-use Rattle.rules.specs.Elements.{noFault, judge, itemCategory, blamed, missing, lacking, faultOr, faultPast, faultIn, isOf, has}
-use Rattle.rules.specs.Elements.{clearLow, kept, pick, picks, stored, restored, couldStore}
+use Rattle.rules.specs.Elements.{noFault, judge, itemCategory, blamed, missing, lacking, faultOr, faultPast, faultIn}
+use Rattle.rules.specs.Elements.{isOf, has, clearLow, kept, pick, picks, stored, restored, couldStore}
 use Rattle.rules.specs.Book.{kindRight, mediaType, isSource, listRight, entriesNumber, bookNumber, entriesIn, bookOf}
 use Rattle.rules.specs.Book.{later, find, written, upToCodec, shownBy02, shownBy0C}
 use Rattle.rules.specs.Packets.{sizeRight, longest, labelIn, typeIn, signalIn, kindIn, messageFrom, readAs, read, packetIn}

@@ -11,7 +11,6 @@ pub mod Host
 pub mod Sessions
 pub mod Listed
 pub mod Views
-pub mod Walks
 pub mod Wires
 pub mod Answers
 pub mod Alike

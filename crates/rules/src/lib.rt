@@ -66,12 +66,6 @@ pub struct Fault {
     pub code: u8,
 }
 
-// Where a book has a SEID: which entry it is, counted from 0, its kind octet, and where its list begins and how long it is.
-pub enum Place {
-    Unknown,
-    Known { index: usize, kind: u8, from: usize, size: usize },
-}
-
 // What a packet leads to: no gathering and no message, a message in this one packet, a gathering that begins or goes on, or a
 // message of which this packet is the last part.
 pub enum Next {

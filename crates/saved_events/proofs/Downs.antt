@@ -5,12 +5,12 @@ use mathlib.Core.List.{List}
 use mathlib.Core.Bool.{Bool, true, false}
 use lib.ListN.{length, set}
 use Rattle.rules.specs.Book.{bookNumber, bookOf}
-use Rattle.rules.specs.Walks.{placeIn, foundBy}
 use Rattle.rules.specs.Endpoints.{Endpoint, endAt, isUp, forgotten, idle}
 use Rattle.rules.specs.Saved.{recordRoom, endsIn, storeEnds}
 use Rattle.rules.specs.declared.OurSeid.{OurSeid}
-use Rattle.rules.specs.declared.Place.the-variants.{Unknown, Known}
 use Rattle.octets.specs.Patch.{patch}
+use Rattle.book.specs.Places.{knownAt, placeIn, foundBy}
+use Rattle.book.specs.declared.places.Located.the-variants.{Unknown}
 use Rattle.book.proofs.Found.{found-as, placed}
 use Rattle.saved.specs.Records.{loaded, endpointOf, headOctets, recordAt}
 use Rattle.saved.specs.Moved.{forgottenHead}
@@ -26,7 +26,7 @@ unfolding downed downedAt foundBy
 down-unknown s b l e = rw (found-as s b Unknown e)
 
 module _ (s : OurSeid) (b l : List ℕ) (i kind from size : ℕ) (right : bookNumber b ≡ 0) (held : Held (length (bookOf b)) l)
-  (there : placeIn s b ≡ Known i kind from size) where
+  (there : placeIn s b ≡ knownAt i kind from size) where
   inside : i < length (bookOf b)
   inside = placed s b i kind from size right there .counted
 
@@ -49,11 +49,11 @@ module _ (s : OurSeid) (b l : List ℕ) (i kind from size : ℕ) (right : bookNu
             ∙ ap (λ (x : Head). patch (i * recordRoom) (headOctets x) l) (moved ∙ ap forgottenHead got)
             ∙ head-emptied n i l inside held (forgottenHead e) refl
             ∙ ap (λ (x : Endpoint). storeEnds (set (endsIn n l) i (forgotten x)) l) (sym (loaded-one n i l inside)) in
-      rw (found-as s b (Known i kind from size) there, channel h got ∙ sym asked ∙ up)
+      rw (found-as s b (knownAt i kind from size) there, channel h got ∙ sym asked ∙ up)
         (ap (λ (x : List ℕ). record { number = 0; records = x }) written)
 
   pub down-none : (h : Head) (t : Bool) → h ≡ loaded (recordAt i l) → t ≡ isUp (h .channel) → t ≡ false
     → _≡_ {A = Turned} (record { number = 10; records = l }) (downed s (bookOf b) l)
   unfolding downed downedAt foundBy
   down-none h t got asked left =
-      rw (found-as s b (Known i kind from size) there, channel h got ∙ sym asked ∙ left)
+      rw (found-as s b (knownAt i kind from size) there, channel h got ∙ sym asked ∙ left)

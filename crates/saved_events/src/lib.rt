@@ -1,6 +1,6 @@
 // Link events over the records of a saved connection.
+use book::places::Located;
 use rules::OurSeid;
-use rules::Place;
 use saved_states::is_awaited;
 use saved_states::is_up;
 
@@ -35,15 +35,11 @@ pub fn down(book: &[u8], records: &mut [u8], seid: OurSeid) -> u8
     ensures { λ r. ⌜ _≡_ {A = Turned} (record { number = r; records = now (records .exit) })
         (downed seid (bookOf (now (book .entry))) (now (records .entry))) ⌝ }
 {
-    let place = book::places::place(book, seid);
-    match place {
-        Place::Unknown => 10,
-        Place::Known {
-            index,
-            kind: _,
-            from: _,
-            size: _,
-        } => {
+    let located = book::places::locate(book, seid);
+    match located {
+        Located::Unknown => 10,
+        Located::Known(place) => {
+            let index = place.index;
             let e = saved::records::get(records, index);
             let channel = e.channel;
             if is_up(channel) {

@@ -36,8 +36,8 @@ quiet c =
     let known = c .before .before in
     calm _ _ _ (λ i. known .shared-slice-known2 .given i .fits) (c .before .refusal .ensures) (c .if1 .left)
 
-place-requires : tie.Need-place-requires
-place-requires c κs = quiet c .numbered
+locate-requires : tie.Need-locate-requires
+locate-requires c κs = quiet c .numbered
 
 enum-told : tie.Need-enum-told
 enum-told c = search needs
@@ -51,8 +51,8 @@ part-result-start-2 c = search needs
 part-result-end-2 : tie.Need-part-result-end-2
 part-result-end-2 c = search needs
 
-enum-known-place : tie.Need-enum-known-place
-enum-known-place c = search needs
+enum-known-located : tie.Need-enum-known-located
+enum-known-located c = search needs
 
 records-of-requires : tie.Need-records-of-requires
 records-of-requires c κs = quiet (c .before .before .before .before) .long
@@ -62,7 +62,7 @@ config-requires c κs =
     let told = c .before .before in
     let placed = told .before .before in
     let args = placed .before .before .before .before .before .args in
-    let there = sym (placed .place .ensures) ∙ told .place2 .given .1 in
+    let there = sym (placed .locate .ensures) ∙ told .located .given .1 in
     ( record-there (args .book .now) (args .saved .now) (args .seid) (quiet (placed .before)) _ _ _ _ there _
         (c .records-of .ensures),
       config-fits (args .book .now) (args .saved .now) (args .seid) (quiet (placed .before)) _ _ _ _ there _
@@ -74,7 +74,7 @@ part-requires c κs =
     let placed = told .before .before in
     let args = placed .before .before .before .before .before .args in
     offer-inside (args .book .now) (args .saved .now) (args .seid) (quiet (placed .before)) _ _ _ _
-      (sym (placed .place .ensures) ∙ told .place2 .given .1) _ (c .before .before .records-of .ensures)
+      (sym (placed .locate .ensures) ∙ told .located .given .1) _ (c .before .before .records-of .ensures)
 
 returns-2 : tie.Need-returns-2
 returns-2 c =
@@ -83,7 +83,7 @@ returns-2 c =
     let args = placed .before .before .before .before .before .args in
     sym (ap (λ (x : Shown). x .part)
       (missing-shown (args .book .now) (args .saved .now) (args .seid) (quiet (placed .before))
-        (sym (placed .place .ensures) ∙ told .enum-told .given .1)))
+        (sym (placed .locate .ensures) ∙ told .enum-told .given .1)))
 
 returns-3 : tie.Need-returns-3
 returns-3 c =
@@ -93,7 +93,7 @@ returns-3 c =
     let placed = told .before .before in
     let args = placed .before .before .before .before .before .args in
     offer-shown (args .book .now) (args .saved .now) (args .seid) (quiet (placed .before)) _ _ _ _
-      (sym (placed .place .ensures) ∙ told .place2 .given .1) _ (asked .before .records-of .ensures)
+      (sym (placed .locate .ensures) ∙ told .located .given .1) _ (asked .before .records-of .ensures)
       (asked .config .result .now) (c .part .result .now)
       (asked .config .ensures) (tested .if2 .taken) (c .part .ensures)
 
@@ -104,7 +104,7 @@ returns-4 c =
     let placed = told .before .before in
     let args = placed .before .before .before .before .before .args in
     config-shown (args .book .now) (args .saved .now) (args .seid) (quiet (placed .before)) _ _ _ _
-      (sym (placed .place .ensures) ∙ told .place2 .given .1) _ (asked .before .records-of .ensures)
+      (sym (placed .locate .ensures) ∙ told .located .given .1) _ (asked .before .records-of .ensures)
       (asked .config .result .now) (asked .config .ensures) (c .if2 .left)
 
 pub settings-spec : {M : Type 1} → statement M
@@ -116,12 +116,12 @@ settings-spec =
     part-result-start
     part-result-end
     returns
-    place-requires
+    locate-requires
     enum-told
     sub-result-2
     part-result-start-2
     part-result-end-2
-    enum-known-place
+    enum-known-located
     records-of-requires
     config-requires
     part-requires

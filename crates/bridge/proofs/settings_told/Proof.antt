@@ -24,8 +24,8 @@ quiet c =
     let known = c .before .before in
     calm _ _ _ (λ i. known .shared-slice-known2 .given i .fits) (c .before .refusal .ensures) (c .if1 .left)
 
-place-requires : tie.Need-place-requires
-place-requires c κs = quiet c .numbered
+locate-requires : tie.Need-locate-requires
+locate-requires c κs = quiet c .numbered
 
 enum-told : tie.Need-enum-told
 enum-told c = search needs
@@ -39,7 +39,7 @@ returns-2 c =
     let args = placed .before .before .before .before .before .args in
     sym (ap (λ (x : Shown). x .number)
       (missing-shown (args .book .now) (args .saved .now) (args .seid) (quiet (placed .before))
-        (sym (placed .place .ensures) ∙ c .enum-told .given .1)))
+        (sym (placed .locate .ensures) ∙ c .enum-told .given .1)))
 
 returns-3 : tie.Need-returns-3
 returns-3 c =
@@ -47,9 +47,9 @@ returns-3 c =
     let args = placed .before .before .before .before .before .args in
     sym (ap (λ (x : Shown). x .number)
       (there-shown (args .book .now) (args .saved .now) (args .seid) (quiet (placed .before)) _ _ _ _
-        (sym (placed .place .ensures) ∙ c .enum-told2 .given .1)))
+        (sym (placed .locate .ensures) ∙ c .enum-told2 .given .1)))
 
 pub settings-told-spec : {M : Type 1} → statement M
 settings-told-spec =
     tie.close
-    (tie.spec refusal-requires returns place-requires enum-told enum-told-2 returns-2 returns-3)
+    (tie.spec refusal-requires returns locate-requires enum-told enum-told-2 returns-2 returns-3)

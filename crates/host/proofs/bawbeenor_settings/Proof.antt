@@ -34,8 +34,8 @@ quiet c =
     told-none (args .book .now) (args .saved .now) (args .seid) (λ i. asked .before .shared-slice-known2 .given i .fits)
       (asked .settings-told .result) (asked .settings-told .ensures) (c .if1 .left)
 
-place-requires : tie.Need-place-requires
-place-requires c κs = quiet c .numbered
+locate-requires : tie.Need-locate-requires
+locate-requires c κs = quiet c .numbered
 
 enum-told : tie.Need-enum-told
 enum-told c = search needs
@@ -43,20 +43,20 @@ enum-told c = search needs
 nowhere-requires-2 : tie.Need-nowhere-requires-2
 nowhere-requires-2 c κs = search needs
 
-enum-known-place : tie.Need-enum-known-place
-enum-known-place c = search needs
+enum-known-located : tie.Need-enum-known-located
+enum-known-located c = search needs
 
 -- the record of the endpoint that the SEID names
 inside : (c : tie.After-known-told)
   → let told = c .before in
     let args = told .before .before .before .before .before .before .before .args in
-    recordFrom (told .place2 .given .0 .0) + recordRoom ≤ length (args .saved .now)
+    recordFrom (told .located .given .0 .0 .index) + recordRoom ≤ length (args .saved .now)
 inside c =
     let told = c .before in
     let placed = told .before .before in
     let args = placed .before .before .before .before .before .args in
     record-inside (args .book .now) (args .saved .now) (args .seid) (quiet (placed .before)) _ _ _ _
-      (sym (placed .place .ensures) ∙ told .place2 .given .1)
+      (sym (placed .locate .ensures) ∙ told .located .given .1)
 
 mul-head : tie.Need-mul-head
 mul-head c = omega (arith, inside c)
@@ -71,10 +71,10 @@ shared-slice-read-length : tie.Need-shared-slice-read-length
 shared-slice-read-length c = omega (arith, inside (c .before))
 
 cast-length : tie.Need-cast-length
-cast-length c = omega (arith, c .shared-slice-known3 .given (recordFrom (c .before .before .place2 .given .0 .0) + 7))
+cast-length c = omega (arith, c .shared-slice-known3 .given (recordFrom (c .before .before .located .given .0 .0 .index) + 7))
 
-add-t19 : tie.Need-add-t19
-add-t19 c = omega (arith, inside (c .before .before))
+add-t18 : tie.Need-add-t18
+add-t18 c = omega (arith, inside (c .before .before))
 
 returns-2 : tie.Need-returns-2
 returns-2 c =
@@ -83,7 +83,7 @@ returns-2 c =
     let args = placed .before .before .before .before .before .args in
     rw (c .nowhere2 .ensures)
       (missing (args .book .now) (args .saved .now) (args .seid) (quiet (placed .before))
-        (sym (placed .place .ensures) ∙ told .enum-told .given .1))
+        (sym (placed .locate .ensures) ∙ told .enum-told .given .1))
 
 returns-3 : tie.Need-returns-3
 returns-3 c =
@@ -91,7 +91,7 @@ returns-3 c =
     let placed = told .before .before in
     let args = placed .before .before .before .before .before .args in
     offer-stands (args .book .now) (args .saved .now) (args .seid) (quiet (placed .before)) _ _ _ _
-      (sym (placed .place .ensures) ∙ told .place2 .given .1) (c .if2 .taken)
+      (sym (placed .locate .ensures) ∙ told .located .given .1) (c .if2 .taken)
 
 returns-4 : tie.Need-returns-4
 returns-4 c =
@@ -99,7 +99,7 @@ returns-4 c =
     let placed = told .before .before in
     let args = placed .before .before .before .before .before .args in
     stored-stands (args .book .now) (args .saved .now) (args .seid) (quiet (placed .before)) _ _ _ _
-      (sym (placed .place .ensures) ∙ told .place2 .given .1) (c .if2 .left)
+      (sym (placed .locate .ensures) ∙ told .located .given .1) (c .if2 .left)
 
 pub bawbeenor-settings-spec : {M : Type 1} → statement M
 bawbeenor-settings-spec =
@@ -108,16 +108,16 @@ bawbeenor-settings-spec =
     settings-told-requires
     nowhere-requires
     returns
-    place-requires
+    locate-requires
     enum-told
     nowhere-requires-2
-    enum-known-place
+    enum-known-located
     mul-head
     add-head
     add-length
     shared-slice-read-length
     cast-length
-    add-t19
+    add-t18
     returns-2
     returns-3
     returns-4)

@@ -5,22 +5,22 @@ use borrow.Author.Needs.{needs}
 use Rattle.saved_events.proofs.down.Statement.{statement}
 use Rattle.saved_events.proofs.down.Tie as tie
 
-place-requires : tie.Need-place-requires
-place-requires c κs = search needs
+locate-requires : tie.Need-locate-requires
+locate-requires c κs = search needs
 
 enum-told : tie.Need-enum-told
 enum-told c = search needs
 
-enum-known-place : tie.Need-enum-known-place
-enum-known-place c = search needs
+enum-known-located : tie.Need-enum-known-located
+enum-known-located c = search needs
 
 get-requires : tie.Need-get-requires
 get-requires c κs =
     let told = c .before .before in
     let placed = told .before .before in
     let start = placed .before .before .before in
-    down-room (start .args .seid) (start .args .book .now) (start .args .records .now) (told .place2 .given .0 .0) _ _ _ (start .pre .0)
-      (start .pre .1) (sym (placed .place .ensures) ∙ told .place2 .given .1)
+    down-room (start .args .seid) (start .args .book .now) (start .args .records .now) (told .located .given .0 .0 .index) _ _ _
+      (start .pre .0) (start .pre .1) (sym (placed .locate .ensures) ∙ told .located .given .1)
 
 is-up-requires : tie.Need-is-up-requires
 is-up-requires c κs = search needs
@@ -33,8 +33,8 @@ set-requires c κs =
     let told = c .before .before .before .before .before .before .before in
     let placed = told .before .before in
     let start = placed .before .before .before in
-    down-room (start .args .seid) (start .args .book .now) (start .args .records .now) (told .place2 .given .0 .0) _ _ _ (start .pre .0)
-      (start .pre .1) (sym (placed .place .ensures) ∙ told .place2 .given .1)
+    down-room (start .args .seid) (start .args .book .now) (start .args .records .now) (told .located .given .0 .0 .index) _ _ _
+      (start .pre .0) (start .pre .1) (sym (placed .locate .ensures) ∙ told .located .given .1)
 
 same-length : tie.Need-same-length
 same-length c = search needs
@@ -49,8 +49,9 @@ returns c =
     let told = got .before .before .before in
     let placed = told .before .before in
     let start = placed .before .before .before in
-    down-done (start .args .seid) (start .args .book .now) (start .args .records .now) (told .place2 .given .0 .0) _ _ _ (start .pre .0)
-      (start .pre .1) (sym (placed .place .ensures) ∙ told .place2 .given .1) (was-set .set .last .0) (got .get .result)
+    down-done (start .args .seid) (start .args .book .now) (start .args .records .now) (told .located .given .0 .0 .index) _ _ _
+      (start .pre .0) (start .pre .1) (sym (placed .locate .ensures) ∙ told .located .given .1)
+      (was-set .set .last .0) (got .get .result)
       (moved .turned .result) (asked .is-up .result) (got .get .ensures) (asked .is-up .ensures) (tested .if1 .taken)
       (moved .turned .ensures) (was-set .set .ensures)
 
@@ -59,7 +60,7 @@ returns-2 c =
     let placed = c .before .before in
     let start = placed .before .before .before in
     down-unknown (start .args .seid) (start .args .book .now) (start .args .records .now)
-      (sym (placed .place .ensures) ∙ c .enum-told .given .1)
+      (sym (placed .locate .ensures) ∙ c .enum-told .given .1)
 
 same-length-2 : tie.Need-same-length-2
 same-length-2 c = search needs
@@ -71,17 +72,18 @@ returns-3 c =
     let told = got .before .before .before in
     let placed = told .before .before in
     let start = placed .before .before .before in
-    down-none (start .args .seid) (start .args .book .now) (start .args .records .now) (told .place2 .given .0 .0) _ _ _ (start .pre .0)
-      (start .pre .1) (sym (placed .place .ensures) ∙ told .place2 .given .1) (got .get .result) (asked .is-up .result)
+    down-none (start .args .seid) (start .args .book .now) (start .args .records .now) (told .located .given .0 .0 .index) _ _ _
+      (start .pre .0) (start .pre .1) (sym (placed .locate .ensures) ∙ told .located .given .1)
+      (got .get .result) (asked .is-up .result)
       (got .get .ensures) (asked .is-up .ensures) (c .if1 .left)
 
 pub down-spec : {M : Type 1} → statement M
 down-spec =
     tie.close
     (tie.spec
-    place-requires
+    locate-requires
     enum-told
-    enum-known-place
+    enum-known-located
     get-requires
     is-up-requires
     turned-requires

@@ -1,15 +1,15 @@
--- `place` meets its contract: the entries left at a turn are right, and the place among them is the place in the book.
+-- `locate` meets its contract: the entries left at a turn are right, and the place among them is the place in the book.
 use Prim.Native.Nat.{ℕ, _+_, _-_, _≤_}
 use native.Mathlib.Omega.{arith}
 use mathlib.Core.Path.{_≡_, sym, ap, _∙_, subst}
 use mathlib.Core.List.{List}
 use lib.ListN.{length, getD}
 use Rattle.rules.specs.Book.{bookOf}
-use Rattle.rules.specs.Walks.{placeFrom, placeIn}
+use Rattle.book.specs.Places.{placeFrom, placeIn}
 use Rattle.book.proofs.Entries.{RightEntry, RightEntries, first-entry, other-entries, right-head}
 use Rattle.book.proofs.Found.{place-here, place-later, place-none, book-length}
-use Rattle.book.proofs.places.place.Statement.{statement}
-use Rattle.book.proofs.places.place.Tie as tie
+use Rattle.book.proofs.places.locate.Statement.{statement}
+use Rattle.book.proofs.places.locate.Tie as tie
 
 abbrev Inv-loop : tie.InvT-loop
 Inv-loop book seid entries at₀ index₀ at index =
@@ -105,8 +105,8 @@ returns-2 c =
     let here = at-loop .loop in
     sym (here .inv .1 ∙ place-none (entries - here .index) (args .seid) (args .book .now) (here .at) (here .index) (omega arith))
 
-pub place-spec : {M : Type 1} → statement M
-place-spec =
+pub locate-spec : {M : Type 1} → statement M
+locate-spec =
     tie.close
     (tie.spec
     Inv-loop
