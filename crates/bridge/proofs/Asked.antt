@@ -74,14 +74,14 @@ module _ (book saved : List ℕ) (s : OurSeid) where
     unfolding delayCall heardAt foundBy connectionIn
     there-heard i kind from size e = rw (calm .allowed, found-as s book (knownAt i kind from size) e)
 
-    there-stands : (i kind from size : ℕ) → placeIn s book ≡ Known i kind from size
+    there-stands : (i kind from size : ℕ) → placeIn s book ≡ knownAt i kind from size
       → statusCall book saved s ≡ standing 0 (endAt (endsIn (length (bookOf book)) (recordsOf saved)) i)
     unfolding statusCall standingAt foundBy connectionIn
-    there-stands i kind from size e = rw (calm .allowed, found-as s book (Known i kind from size) e)
+    there-stands i kind from size e = rw (calm .allowed, found-as s book (knownAt i kind from size) e)
 
     -- ---- The endpoint that the SEID names
 
-    module _ (i kind from size : ℕ) (there : placeIn s book ≡ Known i kind from size) (records : List ℕ)
+    module _ (i kind from size : ℕ) (there : placeIn s book ≡ knownAt i kind from size) (records : List ℕ)
         (lent : records ≡ recordsOf saved) where
       place : Placed s book i kind from size
       place = placed s book i kind from size (calm .numbered) there

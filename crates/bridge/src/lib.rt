@@ -144,15 +144,11 @@ pub fn status(book: &[u8], saved: &[u8], seid: OurSeid) -> Standing
     if number != 0 {
         return standings::nowhere(number);
     }
-    let place = book::places::place(book, seid);
-    match place {
-        Place::Unknown => standings::nowhere(10),
-        Place::Known {
-            index,
-            kind: _,
-            from: _,
-            size: _,
-        } => {
+    let located = book::places::locate(book, seid);
+    match located {
+        Located::Unknown => standings::nowhere(10),
+        Located::Known(place) => {
+            let index = place.index;
             let e = saved::records::get(records_of(saved), index);
             standings::standing(e)
         }

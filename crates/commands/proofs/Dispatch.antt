@@ -18,18 +18,18 @@ use Rattle.rules.specs.declared.Signal.the-variants.{OpenUp, Start, Close, Susp
 use Rattle.rules.specs.declared.Signal.the-variants.{DelayReport, Unassigned}
 use Rattle.rules.proofs.Signal.{the-type}
 use Rattle.rules.proofs.Tests.{clash}
+use Rattle.book.specs.declared.places.Place.{Place}
 use Rattle.saved.specs.Serves.{Serves}
 use Rattle.commands_reply.specs.Obeys.{endsOf, Obeys}
 use Rattle.commands_reply.proofs.Serving.{obeys-stay}
 use Rattle.commands_checks.specs.Met.{namesOne, metIn}
 use Rattle.commands_checks.specs.Named.{Named}
-use Rattle.commands_checks.specs.declared.preambles.Spot.{Spot}
 use Rattle.commands_checks.specs.declared.preambles.Met.the-variants.{Refused}
 use Rattle.commands_checks.proofs.Meeting.{refused-as}
 
 -- ---- The signal that an arm knows
 
-pub known-named : {s t : Signal} {book l p area : List ℕ} {at : Spot} → s ≡ t → Named s book l p area at
+pub known-named : {s t : Signal} {book l p area : List ℕ} {at : Place} → s ≡ t → Named s book l p area at
   → Named t book l p area at
 known-named {book = book} {l = l} {p = p} {area = area} {at = at} e h = subst (λ (x : Signal). Named x book l p area at) e h
 

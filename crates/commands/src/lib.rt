@@ -1,7 +1,7 @@
 // The dispatcher: every message that is complete goes to its command, by the signal. A command that names one endpoint begins
 // with the checks that all of them share, and then does at the endpoint what is its own.
+use book::places::Place;
 use commands_checks::preambles::Met;
-use commands_checks::preambles::Spot;
 use commands_checks::preambles::preamble;
 use commands_checks::tables::signal_of;
 use rules::Said;
@@ -18,7 +18,7 @@ ghost use Rattle.commands_checks.specs.Named.{Named};
 ghost use Rattle.commands.specs.Messages.{answering};
 
 // What a command that names one endpoint does there.
-fn act(signal: Signal, book: &[u8], records: &mut [u8], payload: &[u8], reply: &mut [u8], at: Spot) -> Said
+fn act(signal: Signal, book: &[u8], records: &mut [u8], payload: &[u8], reply: &mut [u8], at: Place) -> Said
     requires { ⌜ (namesOne signal ≡ true) × Named signal (now book) (now records) (now payload) (now reply) at ⌝ }
     ensures { λ r. ⌜ Obeys (obeying signal) (now (book .entry)) (now (records .entry)) (now (payload .entry)) (now (reply .entry))
       r (now (records .exit)) (now (reply .exit)) ⌝ }

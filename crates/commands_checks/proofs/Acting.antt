@@ -12,14 +12,14 @@ use Rattle.rules.specs.Host.{payloadOf}
 use Rattle.rules.specs.Answers.{saidOf}
 use Rattle.rules.specs.declared.Said.{Said}
 use Rattle.rules.specs.declared.Signal.{Signal}
+use Rattle.book.specs.declared.places.Place.{Place}
 use Rattle.commands_reply.specs.Obeys.{endsOf, Obeys}
 use Rattle.commands_reply.proofs.Serving.{obeys-stay, obeys-move}
 use Rattle.commands_checks.specs.Named.{Named}
-use Rattle.commands_checks.specs.declared.preambles.Spot.{Spot}
 use Rattle.commands_checks.proofs.Meeting.{entryIn, acts-as}
 
 -- `is` says what the command does at its endpoint: by computing at each signal
-module _ {signal : Signal} {book records p reply : List ℕ} {at : Spot} (call : Named signal book records p reply at)
+module _ {signal : Signal} {book records p reply : List ℕ} {at : Place} (call : Named signal book records p reply at)
     (on : ℕ → Entry → Outcome)
     (is : obey signal (bookOf book) (endsOf book records) p ≡ named signal (bookOf book) (endsOf book records) p on) where
   -- nothing is moved

@@ -9,14 +9,11 @@ use lib.ListN.{length, getD}
 use borrow.Author.Tests.{eqb-true, leb-true}
 use Rattle.rules.specs.Octets.{if_then_else_}
 use Rattle.rules.specs.Book.{Entry, bookNumber, bookOf}
-use Rattle.rules.specs.Walks.{placeIn, foundBy}
 use Rattle.rules.specs.Endpoints.{Ends, endAt, legalEnd}
 use Rattle.rules.specs.Saved.{recordRoom, configRoom, endsIn}
 use Rattle.rules.specs.Commands.{Outcome, stays, rejects, lengthRight, ourIn, may, wrongState, metAt, preamble, atMet, named}
 use Rattle.rules.specs.Commands.{Met as MetBy, refused, here, meets as meetsBy}
 use Rattle.rules.specs.declared.OurSeid.{OurSeid}
-use Rattle.rules.specs.declared.Place.{Place}
-use Rattle.rules.specs.declared.Place.the-variants.{Unknown, Known}
 use Rattle.rules.specs.declared.Signal.{Signal}
 use Rattle.rules.specs.declared.Signal.the-variants.{Discover, GetCapabilities, SetConfiguration, GetConfiguration, Reconfigure}
 use Rattle.rules.specs.declared.Signal.the-variants.{OpenUp, Start, Close, Suspend, Abort, SecurityControl, GetAllCapabilities}
@@ -24,6 +21,10 @@ use Rattle.rules.specs.declared.Signal.the-variants.{DelayReport, Unassigned}
 use Rattle.rules.proofs.Tests.{Told?, told, passed, failed, clash}
 use Rattle.rules.proofs.Places.{legal-at}
 use Rattle.rules.proofs.ShortReplies.{end-short}
+use Rattle.book.specs.Places.{placeIn, foundBy}
+use Rattle.book.specs.declared.places.Place.{Place}
+use Rattle.book.specs.declared.places.Located.{Located}
+use Rattle.book.specs.declared.places.Located.the-variants.{Unknown, Known}
 use Rattle.book.proofs.Found.{entryBy, found-as, Placed, placed as placed-in}
 use Rattle.saved.specs.Records.{loaded, endpointOf, recordAt, configSizeAt, configAt}
 use Rattle.saved.specs.Held.{Held}
@@ -32,7 +33,6 @@ use Rattle.saved.proofs.OneStore.{loaded-one, record-inside, length-told}
 use Rattle.commands_reply.specs.Obeys.{endsOf}
 use Rattle.commands_checks.specs.Met.{namesOne, metBy, metOf, metIn}
 use Rattle.commands_checks.specs.Named.{Named}
-use Rattle.commands_checks.specs.declared.preambles.Spot.{Spot}
 use Rattle.commands_checks.specs.declared.preambles.Met.{Met}
 use Rattle.commands_checks.specs.declared.preambles.Met.the-variants.{Refused, Here}
 
@@ -60,20 +60,22 @@ module _ (signal : Signal) (book records : List ℕ) (s : OurSeid) where
   unfolding metOf metBy
   met-unknown u = rw u
 
-  module _ (right : bookNumber book ≡ 0) (held : Held (length (bookOf book)) records) {i kind from size : ℕ}
-      (k : placeIn s book ≡ Known i kind from size) where
-    inside : i < length (bookOf book)
-    inside = placed-in s book i kind from size right k .counted
+  module _ (right : bookNumber book ≡ 0) (held : Held (length (bookOf book)) records) {at : Place}
+      (k : placeIn s book ≡ Known at) where
+    inside : at .index < length (bookOf book)
+    inside = placed-in s book (at .index) (at .kind) (at .from) (at .size) right k .counted
 
-    pub met-inside : (i + 1) * recordRoom ≤ length records
-    met-inside = record-inside (length (bookOf book)) i records inside held
+    pub met-inside : (at .index + 1) * recordRoom ≤ length records
+    met-inside = record-inside (length (bookOf book)) (at .index) records inside held
 
-    module _ {h : Head} (got : h ≡ loaded (recordAt i records)) {b : Bool} (test : b ≡ may signal (h .state) (h .channel)) where
-      shown : endAt (endsOf book records) i ≡ endpointOf h (configAt i records)
+    module _ {h : Head} (got : h ≡ loaded (recordAt (at .index) records)) {b : Bool}
+        (test : b ≡ may signal (h .state) (h .channel)) where
+      shown : endAt (endsOf book records) (at .index) ≡ endpointOf h (configAt (at .index) records)
       shown =
-          loaded-one (length (bookOf book)) i records inside ∙ ap (λ (x : Head). endpointOf x (configAt i records)) (sym got)
+          loaded-one (length (bookOf book)) (at .index) records inside
+          ∙ ap (λ (x : Head). endpointOf x (configAt (at .index) records)) (sym got)
 
-      pub met-here : b ≡ true → Here (record { index = i; kind = kind; from = from; size = size }) ≡ metOf signal book records s
+      pub met-here : b ≡ true → Here at ≡ metOf signal book records s
       unfolding metOf metBy endpointOf
       met-here t = rw (k, shown, ← test, t)
 
@@ -96,20 +98,20 @@ unfoldable pub metAs : OurSeid → List ℕ → Met → MetBy
 metAs s b (Refused code) = refused code
 metAs s b (Here at) = here (at .index) (entryBy s b (at .kind) (at .from) (at .size))
 
-by-may : (s : OurSeid) (b : List ℕ) (t : Bool) (at : Spot) (code : ℕ)
+by-may : (s : OurSeid) (b : List ℕ) (t : Bool) (at : Place) (code : ℕ)
   → (if t then here (at .index) (entryBy s b (at .kind) (at .from) (at .size)) else refused code)
     ≡ metAs s b (if t then Here at else Refused code)
 unfolding metAs
 by-may s b true at code = refl
 by-may s b false at code = refl
 
-by-place : (signal : Signal) (ends : Ends) (s : OurSeid) (b : List ℕ) (place : Place)
+by-place : (signal : Signal) (ends : Ends) (s : OurSeid) (b : List ℕ) (place : Located)
   → metAt signal ends (foundBy s place b) ≡ metAs s b (metBy signal ends place)
 unfolding metAt foundBy metBy metAs
 by-place signal ends s b Unknown = refl
-by-place signal ends s b (Known i kind from size) =
-    by-may s b (may signal (endAt ends i .state) (endAt ends i .channel))
-      (record { index = i; kind = kind; from = from; size = size }) (wrongState signal (endAt ends i .state))
+by-place signal ends s b (Known at) =
+    by-may s b (may signal (endAt ends (at .index) .state) (endAt ends (at .index) .channel)) at
+      (wrongState signal (endAt ends (at .index) .state))
 
 pub meets-as : (signal : Signal) (book records : List ℕ) (s : OurSeid)
   → meetsBy signal (bookOf book) (endsOf book records) s ≡ metAs s book (metOf signal book records s)
@@ -133,7 +135,7 @@ preamble-as signal book records p =
 -- ---- What the command leads to
 
 -- the entry that a payload names
-abbrev pub entryIn : List ℕ → List ℕ → Spot → Entry
+abbrev pub entryIn : List ℕ → List ℕ → Place → Entry
 entryIn book p at = entryBy (ourIn (getD p 0 0)) book (at .kind) (at .from) (at .size)
 
 module _ (signal : Signal) (book records p : List ℕ) (on : ℕ → Entry → Outcome) where
@@ -150,7 +152,7 @@ module _ (signal : Signal) (book records p : List ℕ) (on : ℕ → Entry → O
   unfolding metAs atMet
   refused-as e = outcome e
 
-  pub acts-as : {at : Spot} → metIn signal book records p ≡ Here at
+  pub acts-as : {at : Place} → metIn signal book records p ≡ Here at
     → named signal (bookOf book) (endsOf book records) p on ≡ on (at .index) (entryIn book p at)
   unfolding metAs atMet
   acts-as e = outcome e
@@ -158,7 +160,7 @@ module _ (signal : Signal) (book records p : List ℕ) (on : ℕ → Entry → O
 -- ---- The endpoint that was met
 
 -- what is known of it
-pub record Stands (signal : Signal) (book records p : List ℕ) (at : Spot) : Type 0 where
+pub record Stands (signal : Signal) (book records p : List ℕ) (at : Place) : Type 0 where
   pub long : lengthRight signal (length p) ≡ true
   pub placed : Placed (ourIn (getD p 0 0)) book (at .index) (at .kind) (at .from) (at .size)
   pub inside : (at .index + 1) * recordRoom ≤ length records
@@ -168,38 +170,38 @@ pub record Stands (signal : Signal) (book records p : List ℕ) (at : Spot) : Ty
   pub lawful : legalEnd (entryIn book p at) (endAt (endsOf book records) (at .index)) ≡ true
   pub takes : let e = endAt (endsOf book records) (at .index) in may signal (e .state) (e .channel) ≡ true
 
-record Seen (signal : Signal) (ends : Ends) (place : Place) (at : Spot) : Type 0 where
-  there : place ≡ Known (at .index) (at .kind) (at .from) (at .size)
+record Seen (signal : Signal) (ends : Ends) (place : Located) (at : Place) : Type 0 where
+  there : place ≡ Known at
   takes : may signal (endAt ends (at .index) .state) (endAt ends (at .index) .channel) ≡ true
 
-seen-may : (signal : Signal) (ends : Ends) (i kind from size : ℕ) (at : Spot)
-  → Told? (may signal (endAt ends i .state) (endAt ends i .channel))
-  → metBy signal ends (Known i kind from size) ≡ Here at → Seen signal ends (Known i kind from size) at
+seen-may : (signal : Signal) (ends : Ends) (known at : Place)
+  → Told? (may signal (endAt ends (known .index) .state) (endAt ends (known .index) .channel))
+  → metBy signal ends (Known known) ≡ Here at → Seen signal ends (Known known) at
 unfolding metBy
-seen-may signal ends i kind from size at (passed t) e =
-    let e′ : Here (record { index = i; kind = kind; from = from; size = size }) ≡ Here at = rw t at e in
-    let same : record { index = i; kind = kind; from = from; size = size } ≡ at = cc in
-    subst (λ (x : Spot). Seen signal ends (Known i kind from size) x) same (record { there = refl; takes = t })
-seen-may signal ends i kind from size at (failed f) e =
-    let e′ : Refused (wrongState signal (endAt ends i .state)) ≡ Here at = rw f at e in
+seen-may signal ends known at (passed t) e =
+    let e′ : Here known ≡ Here at = rw t at e in
+    let same : known ≡ at = cc in
+    subst (λ (x : Place). Seen signal ends (Known known) x) same (record { there = refl; takes = t })
+seen-may signal ends known at (failed f) e =
+    let e′ : Refused (wrongState signal (endAt ends (known .index) .state)) ≡ Here at = rw f at e in
     let z : _≡_ {A = ℕ} 0 1 = cc in
     absurd (omega arith)
 
-seen-place : (signal : Signal) (ends : Ends) (place : Place) (at : Spot) → metBy signal ends place ≡ Here at
+seen-place : (signal : Signal) (ends : Ends) (place : Located) (at : Place) → metBy signal ends place ≡ Here at
   → Seen signal ends place at
 unfolding metBy
 seen-place signal ends Unknown at e = let z : _≡_ {A = ℕ} 0 1 = cc in absurd (omega arith)
-seen-place signal ends (Known i kind from size) at e =
-    seen-may signal ends i kind from size at (told (may signal (endAt ends i .state) (endAt ends i .channel))) e
+seen-place signal ends (Known known) at e =
+    seen-may signal ends known at (told (may signal (endAt ends (known .index) .state) (endAt ends (known .index) .channel))) e
 
 -- where a SEID that passed stands
-pub met-placed : (signal : Signal) (book records : List ℕ) (s : OurSeid) (at : Spot) → bookNumber book ≡ 0
+pub met-placed : (signal : Signal) (book records : List ℕ) (s : OurSeid) (at : Place) → bookNumber book ≡ 0
   → metOf signal book records s ≡ Here at → Placed s book (at .index) (at .kind) (at .from) (at .size)
 unfolding metOf
 met-placed signal book records s at right e =
     placed-in s book (at .index) (at .kind) (at .from) (at .size) right (seen-place signal (endsOf book records) _ at e .there)
 
-seen-long : (signal : Signal) (book records p : List ℕ) (at : Spot) → Told? (lengthRight signal (length p))
+seen-long : (signal : Signal) (book records p : List ℕ) (at : Place) → Told? (lengthRight signal (length p))
   → metIn signal book records p ≡ Here at
   → (lengthRight signal (length p) ≡ true) × Seen signal (endsOf book records) (placeIn (ourIn (getD p 0 0)) book) at
 unfolding metIn metOf
@@ -207,7 +209,7 @@ seen-long signal book records p at (passed t) e = (t, seen-place signal (endsOf 
 seen-long signal book records p at (failed f) e =
     let e′ : Refused 0x11 ≡ Here at = rw f at e in let z : _≡_ {A = ℕ} 0 1 = cc in absurd (omega arith)
 
-pub stands : {signal : Signal} {book records p reply : List ℕ} {at : Spot} → Named signal book records p reply at
+pub stands : {signal : Signal} {book records p reply : List ℕ} {at : Place} → Named signal book records p reply at
   → Stands signal book records p at
 stands {signal} {book} {records} {p} {reply} {at} call =
     let s = ourIn (getD p 0 0) in
@@ -225,7 +227,7 @@ stands {signal} {book} {records} {p} {reply} {at} call =
     }
 
 -- Its configuration is no longer than a reply may be.
-pub config-short : {signal : Signal} {book records p : List ℕ} {at : Spot} → Stands signal book records p at
+pub config-short : {signal : Signal} {book records p : List ℕ} {at : Place} → Stands signal book records p at
   → length (configAt (at .index) records) ≤ 64
 unfolding endpointOf
 config-short {book = book} {records = records} {p = p} {at = at} it =

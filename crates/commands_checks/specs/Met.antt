@@ -5,16 +5,16 @@ use mathlib.Core.List.{List}
 use mathlib.Core.Bool.{Bool, true, false}
 use lib.ListN.{length, getD}
 use Rattle.rules.specs.Octets.{if_then_else_}
-use Rattle.rules.specs.Walks.{placeIn}
 use Rattle.rules.specs.Endpoints.{Ends, endAt}
 use Rattle.rules.specs.Commands.{lengthRight, ourIn, may, wrongState}
 use Rattle.rules.specs.declared.OurSeid.{OurSeid}
-use Rattle.rules.specs.declared.Place.{Place}
-use Rattle.rules.specs.declared.Place.the-variants.{Unknown, Known}
 use Rattle.rules.specs.declared.Signal.{Signal}
 use Rattle.rules.specs.declared.Signal.the-variants.{Discover, GetCapabilities, SetConfiguration, GetConfiguration, Reconfigure}
 use Rattle.rules.specs.declared.Signal.the-variants.{OpenUp, Start, Close, Suspend, Abort, SecurityControl, GetAllCapabilities}
 use Rattle.rules.specs.declared.Signal.the-variants.{DelayReport, Unassigned}
+use Rattle.book.specs.Places.{placeIn}
+use Rattle.book.specs.declared.places.Located.{Located}
+use Rattle.book.specs.declared.places.Located.the-variants.{Unknown, Known}
 use Rattle.commands_reply.specs.Obeys.{endsOf}
 use Rattle.commands_checks.specs.declared.preambles.Met.{Met}
 use Rattle.commands_checks.specs.declared.preambles.Met.the-variants.{Refused, Here}
@@ -36,12 +36,11 @@ namesOne GetAllCapabilities = true
 namesOne DelayReport = true
 namesOne Unassigned = false
 
-unfoldable pub metBy : Signal → Ends → Place → Met
+unfoldable pub metBy : Signal → Ends → Located → Met
 metBy signal ends Unknown = Refused 0x12
-metBy signal ends (Known i kind from size) =
-    let e = endAt ends i in
-    if may signal (e .state) (e .channel) then Here (record { index = i; kind = kind; from = from; size = size })
-    else Refused (wrongState signal (e .state))
+metBy signal ends (Known at) =
+    let e = endAt ends (at .index) in
+    if may signal (e .state) (e .channel) then Here at else Refused (wrongState signal (e .state))
 
 -- known and state
 unfoldable pub metOf : Signal → List ℕ → List ℕ → OurSeid → Met

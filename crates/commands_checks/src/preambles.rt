@@ -2,8 +2,9 @@
 use crate::tables::length_right;
 use crate::tables::may;
 use crate::tables::wrong_state;
+use book::places::Located;
+use book::places::Place;
 use rules::OurSeid;
-use rules::Place;
 use rules::Signal;
 use saved::records::get;
 
@@ -14,18 +15,10 @@ ghost use Rattle.rules.specs.Book.{bookNumber, bookOf};
 ghost use Rattle.saved.specs.Held.{Held};
 ghost use Rattle.commands_checks.specs.Met.{namesOne, metOf, metIn};
 
-// An endpoint that the book has: which entry it is, counted from 0, its kind octet, and where its list begins and how long it is.
-pub struct Spot {
-    pub index: usize,
-    pub kind: u8,
-    pub from: usize,
-    pub size: usize,
-}
-
 // What the checks come to: the code of the refusal, or the endpoint.
 pub enum Met {
     Refused(u8),
-    Here(Spot),
+    Here(Place),
 }
 
 // Known, then the state.
@@ -33,25 +26,16 @@ pub fn meets(signal: Signal, book: &[u8], records: &[u8], seid: OurSeid) -> Met
     requires { ⌜ (bookNumber (now book) ≡ 0) × Held (length (bookOf (now book))) (now records) ⌝ }
     ensures { λ r. ⌜ r ≡ metOf signal (now (book .entry)) (now (records .entry)) seid ⌝ }
 {
-    let place = book::places::place(book, seid);
-    match place {
-        Place::Unknown => Met::Refused(0x12),
-        Place::Known {
-            index,
-            kind,
-            from,
-            size,
-        } => {
+    let located = book::places::locate(book, seid);
+    match located {
+        Located::Unknown => Met::Refused(0x12),
+        Located::Known(place) => {
+            let index = place.index;
             let e = get(records, index);
             let state = e.state;
             let channel = e.channel;
             if may(signal, state, channel) {
-                Met::Here(Spot {
-                    index,
-                    kind,
-                    from,
-                    size,
-                })
+                Met::Here(place)
             } else {
                 Met::Refused(wrong_state(signal, state))
             }

@@ -31,13 +31,13 @@ use Rattle.elements.specs.declared.walks.Walked.the-variants.{Failed, Clean}
 use Rattle.elements.proofs.Judging.{check-clean}
 use Rattle.elements_stored.specs.Stores.{markedStore, MarksFit}
 use Rattle.elements_stored.proofs.Stores.{Stores, could-checked, again-stores}
+use Rattle.book.specs.declared.places.Place.{Place}
 use Rattle.saved.specs.Records.{loaded, endpointOf, recordAt, configSizeAt, configAt}
 use Rattle.saved.specs.Moved.{reconfiguredHead}
 use Rattle.saved.specs.declared.records.Endpoint.{Endpoint as Head}
 use Rattle.saved.proofs.Configs.{config-length}
 use Rattle.commands_reply.specs.Obeys.{endsOf, Obeys}
 use Rattle.commands_checks.specs.Named.{Named}
-use Rattle.commands_checks.specs.declared.preambles.Spot.{Spot}
 use Rattle.commands_checks.proofs.Meeting.{entryIn, stands}
 use Rattle.commands_checks.proofs.Acting.{did-say}
 use Rattle.commands_set.specs.Kept.{Renews, keptOctets}
@@ -124,7 +124,7 @@ anew-as h old config = refl
 
 -- ---- What is done at the endpoint
 
-module _ {book records p reply : List ℕ} {at : Spot} (call : Named Reconfigure book records p reply at) where
+module _ {book records p reply : List ℕ} {at : Place} (call : Named Reconfigure book records p reply at) where
   pub three : 3 ≤ length p
   unfolding lengthRight
   three = leb-true 3 (length p) (stands call .long)

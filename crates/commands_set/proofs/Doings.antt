@@ -24,13 +24,13 @@ use Rattle.elements.specs.Walks.{walkedAs}
 use Rattle.elements.specs.declared.marks.Marks.{Marks}
 use Rattle.elements.specs.declared.walks.Walked.{Walked}
 use Rattle.elements.specs.declared.walks.Walked.the-variants.{Failed, Clean}
+use Rattle.book.specs.declared.places.Place.{Place}
 use Rattle.saved.specs.Records.{endpointOf, headOctets}
 use Rattle.saved.specs.Moved.{reconfiguredHead}
 use Rattle.saved.specs.declared.records.Endpoint.{Endpoint as Head}
 use Rattle.saved.proofs.OneStore.{stored-one}
 use Rattle.commands_reply.specs.Obeys.{endsOf, Obeys}
 use Rattle.commands_checks.specs.Named.{Named}
-use Rattle.commands_checks.specs.declared.preambles.Spot.{Spot}
 use Rattle.commands_checks.proofs.Meeting.{entryIn, stands}
 use Rattle.commands_checks.proofs.Acting.{did-move}
 use Rattle.commands_set.specs.Kept.{keptOctets}
@@ -51,7 +51,7 @@ fault-answered signal f m ends o e = go (told (eqb (f .code) 0)) ∙ ap (answere
     go (passed z) = rw z
     go (failed z) = rw z
 
-module _ {signal : Signal} {book records p reply : List ℕ} {at : Spot} (call : Named signal book records p reply at) where
+module _ {signal : Signal} {book records p reply : List ℕ} {at : Place} (call : Named signal book records p reply at) where
   -- the list of the endpoint that was met
   pub few : length (take (at .size) (drop (at .from) book)) ≤ 64
   few = caps-short (entryIn book p at) (stands call .placed .right)

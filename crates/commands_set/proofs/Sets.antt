@@ -28,12 +28,12 @@ use Rattle.elements.specs.declared.walks.Walked.the-variants.{Failed, Clean}
 use Rattle.elements.proofs.Judging.{check-clean}
 use Rattle.elements_stored.specs.Stores.{markedStore, MarksFit}
 use Rattle.elements_stored.proofs.Stores.{set-stores}
+use Rattle.book.specs.declared.places.Place.{Place}
 use Rattle.saved.specs.Records.{loaded, endpointOf, recordAt, configAt}
 use Rattle.saved.specs.Moved.{settledHead, reconfiguredHead}
 use Rattle.saved.specs.declared.records.Endpoint.{Endpoint as Head}
 use Rattle.commands_reply.specs.Obeys.{endsOf, Obeys}
 use Rattle.commands_checks.specs.Named.{Named}
-use Rattle.commands_checks.specs.declared.preambles.Spot.{Spot}
 use Rattle.commands_checks.proofs.Meeting.{entryIn, stands}
 use Rattle.commands_checks.proofs.Acting.{did-say}
 use Rattle.commands_set.specs.Kept.{keptOctets}
@@ -54,7 +54,7 @@ settled-as h old config far = refl
 
 -- ---- What is done at the endpoint
 
-module _ {book records p reply : List ℕ} {at : Spot} (call : Named SetConfiguration book records p reply at) where
+module _ {book records p reply : List ℕ} {at : Place} (call : Named SetConfiguration book records p reply at) where
   pub two : 2 ≤ length p
   unfolding lengthRight
   two = leb-true 2 (length p) (stands call .long)

@@ -1,6 +1,6 @@
 // 05 Reconfigure: the elements.
 use crate::keeps::keep;
-use commands_checks::preambles::Spot;
+use book::places::Place;
 use elements::marks::Marks;
 use elements::walks::check;
 use elements::walks::Walked;
@@ -44,7 +44,7 @@ fn renew(caps: &[u8], records: &mut [u8], payload: &[u8], index: usize, head: En
     }
 }
 
-pub fn reconfigure(book: &[u8], records: &mut [u8], payload: &[u8], reply: &mut [u8], at: Spot) -> Said
+pub fn reconfigure(book: &[u8], records: &mut [u8], payload: &[u8], reply: &mut [u8], at: Place) -> Said
     requires { ⌜ Named Reconfigure (now book) (now records) (now payload) (now reply) at ⌝ }
     ensures { λ r. ⌜ Obeys (obey Reconfigure) (now (book .entry)) (now (records .entry)) (now (payload .entry))
       (now (reply .entry)) r (now (records .exit)) (now (reply .exit)) ⌝ }

@@ -1,6 +1,6 @@
 // 03 Set Configuration: the far SEID, then the elements.
 use crate::keeps::keep;
-use commands_checks::preambles::Spot;
+use book::places::Place;
 use elements::marks::none;
 use elements::walks::check;
 use elements::walks::Walked;
@@ -16,7 +16,7 @@ ghost use Rattle.rules.specs.declared.Signal.the-variants.{SetConfiguration};
 ghost use Rattle.commands_reply.specs.Obeys.{Obeys};
 ghost use Rattle.commands_checks.specs.Named.{Named};
 
-pub fn set_configuration(book: &[u8], records: &mut [u8], payload: &[u8], reply: &mut [u8], at: Spot) -> Said
+pub fn set_configuration(book: &[u8], records: &mut [u8], payload: &[u8], reply: &mut [u8], at: Place) -> Said
     requires { ⌜ Named SetConfiguration (now book) (now records) (now payload) (now reply) at ⌝ }
     ensures { λ r. ⌜ Obeys (obey SetConfiguration) (now (book .entry)) (now (records .entry)) (now (payload .entry))
       (now (reply .entry)) r (now (records .exit)) (now (reply .exit)) ⌝ }

@@ -18,15 +18,15 @@ use Rattle.rules.specs.declared.Signal.the-variants.{GetCapabilities, GetConfig
 use Rattle.rules.proofs.ShortReplies.{caps-short}
 use Rattle.octets.specs.Patch.{patch, part}
 use Rattle.octets.proofs.Patches.{front-patch}
+use Rattle.book.specs.declared.places.Place.{Place}
 use Rattle.saved.specs.Records.{endpointOf, configAt}
 use Rattle.commands_reply.specs.Obeys.{endsOf, Obeys}
 use Rattle.commands_checks.specs.Named.{Named}
-use Rattle.commands_checks.specs.declared.preambles.Spot.{Spot}
 use Rattle.commands_checks.proofs.Meeting.{entryIn, stands, config-short}
 use Rattle.commands_checks.proofs.Acting.{did-say}
 use Rattle.commands_show.specs.Says.{Says}
 
-module _ {signal : Signal} {book records p reply : List ℕ} {at : Spot} (call : Named signal book records p reply at) where
+module _ {signal : Signal} {book records p reply : List ℕ} {at : Place} (call : Named signal book records p reply at) where
   -- the list lies in the book, and it fits
   pub list-inside : at .from + at .size ≤ length book
   list-inside = stands call .placed .inside
@@ -39,7 +39,7 @@ module _ {signal : Signal} {book records p reply : List ℕ} {at : Spot} (call :
   pub config-fits : {q : List ℕ} → q ≡ configAt (at .index) records → length q ≤ length reply
   config-fits e = omega (arith, ap length e, config-short (stands call), call .serves .room)
 
-module _ {book records p reply : List ℕ} {at : Spot} where
+module _ {book records p reply : List ℕ} {at : Place} where
   pub shows-some : Named GetCapabilities book records p reply at → {q reply′ : List ℕ} {n : ℕ}
     → q ≡ part (at .from) (at .size) book
     → (reply′ ≡ patch 0 (written (upToCodec (items q))) reply) × (n ≡ 0 + length (written (upToCodec (items q))))

@@ -1,5 +1,5 @@
 // What is answered at the endpoint that a command names, where nothing is moved.
-use commands_checks::preambles::Spot;
+use book::places::Place;
 use rules::Said;
 use saved::records::config;
 
@@ -25,7 +25,7 @@ fn accepted_with(reply: &mut [u8], payload: &[u8]) -> Said
 }
 
 // 02: of what the endpoint offers, the elements of categories 1 to 7.
-pub fn get_capabilities(book: &[u8], records: &[u8], payload: &[u8], reply: &mut [u8], at: Spot) -> Said
+pub fn get_capabilities(book: &[u8], records: &[u8], payload: &[u8], reply: &mut [u8], at: Place) -> Said
     requires { ⌜ Named GetCapabilities (now book) (now records) (now payload) (now reply) at ⌝ }
     ensures { λ r. ⌜ Obeys (obey GetCapabilities) (now (book .entry)) (now (records .entry)) (now (payload .entry))
       (now (reply .entry)) r (now (records .entry)) (now (reply .exit)) ⌝ }
@@ -35,7 +35,7 @@ pub fn get_capabilities(book: &[u8], records: &[u8], payload: &[u8], reply: &mut
 }
 
 // 0C: all of it.
-pub fn get_all_capabilities(book: &[u8], records: &[u8], payload: &[u8], reply: &mut [u8], at: Spot) -> Said
+pub fn get_all_capabilities(book: &[u8], records: &[u8], payload: &[u8], reply: &mut [u8], at: Place) -> Said
     requires { ⌜ Named GetAllCapabilities (now book) (now records) (now payload) (now reply) at ⌝ }
     ensures { λ r. ⌜ Obeys (obey GetAllCapabilities) (now (book .entry)) (now (records .entry)) (now (payload .entry))
       (now (reply .entry)) r (now (records .entry)) (now (reply .exit)) ⌝ }
@@ -44,7 +44,7 @@ pub fn get_all_capabilities(book: &[u8], records: &[u8], payload: &[u8], reply: 
 }
 
 // 04: the configuration as it is stored.
-pub fn get_configuration(book: &[u8], records: &[u8], payload: &[u8], reply: &mut [u8], at: Spot) -> Said
+pub fn get_configuration(book: &[u8], records: &[u8], payload: &[u8], reply: &mut [u8], at: Place) -> Said
     requires { ⌜ Named GetConfiguration (now book) (now records) (now payload) (now reply) at ⌝ }
     ensures { λ r. ⌜ Obeys (obey GetConfiguration) (now (book .entry)) (now (records .entry)) (now (payload .entry))
       (now (reply .entry)) r (now (records .entry)) (now (reply .exit)) ⌝ }
@@ -53,7 +53,7 @@ pub fn get_configuration(book: &[u8], records: &[u8], payload: &[u8], reply: &mu
 }
 
 // 0B: no content protection is spoken here.
-pub fn security_control(book: &[u8], records: &[u8], payload: &[u8], reply: &mut [u8], at: Spot) -> Said
+pub fn security_control(book: &[u8], records: &[u8], payload: &[u8], reply: &mut [u8], at: Place) -> Said
     requires { ⌜ Named SecurityControl (now book) (now records) (now payload) (now reply) at ⌝ }
     ensures { λ r. ⌜ Obeys (obey SecurityControl) (now (book .entry)) (now (records .entry)) (now (payload .entry))
       (now (reply .entry)) r (now (records .entry)) (now (reply .exit)) ⌝ }

@@ -23,18 +23,18 @@ use Rattle.rules.specs.declared.Delay.the-variants.{Reported}
 use Rattle.rules.specs.declared.Signal.{Signal}
 use Rattle.rules.specs.declared.Signal.the-variants.{OpenUp, DelayReport}
 use Rattle.octets.specs.Patch.{patch}
+use Rattle.book.specs.declared.places.Place.{Place}
 use Rattle.saved.specs.Records.{loaded, endpointOf, headOctets, recordAt, configAt}
 use Rattle.saved.specs.Moved.{openedHead, leavingHead, delayedHead}
 use Rattle.saved.specs.declared.records.Endpoint.{Endpoint as Head}
 use Rattle.saved.proofs.OneStore.{head-moved}
 use Rattle.commands_reply.specs.Obeys.{endsOf, Obeys}
 use Rattle.commands_checks.specs.Named.{Named}
-use Rattle.commands_checks.specs.declared.preambles.Spot.{Spot}
 use Rattle.commands_checks.proofs.Meeting.{entryIn, stands}
 use Rattle.commands_checks.proofs.Acting.{did-say, did-move}
 use Rattle.commands_stream.proofs.HeadStored.{left-stored}
 
-module _ {signal : Signal} {book records p reply : List ℕ} {at : Spot} (call : Named signal book records p reply at)
+module _ {signal : Signal} {book records p reply : List ℕ} {at : Place} (call : Named signal book records p reply at)
     (on : ℕ → Entry → Outcome)
     (is : obey signal (bookOf book) (endsOf book records) p ≡ named signal (bookOf book) (endsOf book records) p on) where
   -- a head with the same configuration
@@ -48,7 +48,7 @@ module _ {signal : Signal} {book records p reply : List ℕ} {at : Spot} (call :
 
 -- ---- Open
 
-module _ {book records p reply : List ℕ} {at : Spot} (call : Named OpenUp book records p reply at) {count : ℕ} {b : Bool}
+module _ {book records p reply : List ℕ} {at : Place} (call : Named OpenUp book records p reply at) {count : ℕ} {b : Bool}
     (counts : count ≡ length (bookOf book)) (none : b ≡ eqb (awaiting (endsIn count records)) 0) where
   test : eqb (awaiting (endsOf book records)) 0 ≡ b
   test = sym (none ∙ ap (λ (k : ℕ). eqb (awaiting (endsIn k records)) 0) counts)
@@ -76,7 +76,7 @@ module _ {book records p reply : List ℕ} {at : Spot} (call : Named OpenUp book
 
 -- ---- Close and Abort
 
-module _ {signal : Signal} {book records p reply : List ℕ} {at : Spot} (call : Named signal book records p reply at) (to : State)
+module _ {signal : Signal} {book records p reply : List ℕ} {at : Place} (call : Named signal book records p reply at) (to : State)
     (is : obey signal (bookOf book) (endsOf book records) p
       ≡ named signal (bookOf book) (endsOf book records) p (leaveAt to (endsOf book records))) where
   pub leaves : {said : Said} {records′ : List ℕ}
@@ -90,7 +90,7 @@ module _ {signal : Signal} {book records p reply : List ℕ} {at : Spot} (call :
 
 -- ---- Delay Report
 
-module _ {book records p reply : List ℕ} {at : Spot} (call : Named DelayReport book records p reply at) {b : Bool} {q : List ℕ}
+module _ {book records p reply : List ℕ} {at : Place} (call : Named DelayReport book records p reply at) {b : Bool} {q : List ℕ}
     (there : q ≡ configAt (at .index) records) (takes : b ≡ isSource (at .kind) && has 8 (items q)) where
   taken : takesDelay (entryIn book p at) (endAt (endsOf book records) (at .index)) ≡ b
   unfolding takesDelay endpointOf

@@ -19,6 +19,7 @@ use Rattle.rules.specs.declared.State.{State}
 use Rattle.rules.specs.declared.Signal.{Signal}
 use Rattle.rules.proofs.SavedReads.{Fits, ends-length, ends-back, ends-right, length-endsIn, read-short, octets-known}
 use Rattle.octets.specs.Patch.{patch}
+use Rattle.book.specs.declared.places.Place.{Place}
 use Rattle.saved.specs.Records.{loaded, headOctets, recordAt}
 use Rattle.saved.specs.Moved.{inStateHead}
 use Rattle.saved.specs.Held.{Held}
@@ -27,7 +28,6 @@ use Rattle.saved.proofs.OneStore.{record-inside}
 use Rattle.commands_reply.specs.Obeys.{endsOf, Obeys}
 use Rattle.commands_reply.proofs.Serving.{unmoved, obeys, obeys-stay}
 use Rattle.commands_checks.specs.Met.{metOf}
-use Rattle.commands_checks.specs.declared.preambles.Spot.{Spot}
 use Rattle.commands_checks.specs.declared.preambles.Met.{Met}
 use Rattle.commands_checks.specs.declared.preambles.Met.the-variants.{Refused, Here}
 use Rattle.commands_checks.proofs.Meeting.{metAs, meets-as, met-placed}
@@ -93,7 +93,7 @@ module _ (signal : Signal) (to : State) where
       unfolding metAs shiftOne ourIn
       stopped right {code} e area s a = answers right (rejects signal (getD p i 0 / 4 * 4) code) (on-shift e) area s a
 
-      module _ (right : bookNumber book ≡ 0) {at : Spot} (met : metOf signal book l (ourIn (getD p i 0)) ≡ Here at) where
+      module _ (right : bookNumber book ≡ 0) {at : Place} (met : metOf signal book l (ourIn (getD p i 0)) ≡ Here at) where
         counted : at .index < length (bookOf book)
         counted = met-placed signal book l (ourIn (getD p i 0)) at right met .counted
 

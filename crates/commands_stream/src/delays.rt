@@ -1,5 +1,5 @@
 // 0D Delay Report: the delay in tenths of a millisecond, high octet first.
-use commands_checks::preambles::Spot;
+use book::places::Place;
 use rules::Said;
 use saved::moves::delayed;
 use saved::records::config;
@@ -25,7 +25,7 @@ fn takes_delay(kind: u8, config: &[u8]) -> bool
     elements::offers::offers(config, 0, 8, b"")
 }
 
-pub fn delay_report(book: &[u8], records: &mut [u8], payload: &[u8], reply: &mut [u8], at: Spot) -> Said
+pub fn delay_report(book: &[u8], records: &mut [u8], payload: &[u8], reply: &mut [u8], at: Place) -> Said
     requires { ⌜ Named DelayReport (now book) (now records) (now payload) (now reply) at ⌝ }
     ensures { λ r. ⌜ Obeys (obey DelayReport) (now (book .entry)) (now (records .entry)) (now (payload .entry))
       (now (reply .entry)) r (now (records .exit)) (now (reply .exit)) ⌝ }

@@ -1,5 +1,5 @@
 // Close and Abort: with a channel the endpoint is closing or aborting from then on, without one it is idle.
-use commands_checks::preambles::Spot;
+use book::places::Place;
 use rules::Said;
 use rules::State;
 
@@ -31,7 +31,7 @@ fn leave(records: &mut [u8], index: usize, to: State) -> Said
 }
 
 // 08 Close.
-pub fn close(book: &[u8], records: &mut [u8], payload: &[u8], reply: &mut [u8], at: Spot) -> Said
+pub fn close(book: &[u8], records: &mut [u8], payload: &[u8], reply: &mut [u8], at: Place) -> Said
     requires { ⌜ Named Close (now book) (now records) (now payload) (now reply) at ⌝ }
     ensures { λ r. ⌜ Obeys (obey Close) (now (book .entry)) (now (records .entry)) (now (payload .entry)) (now (reply .entry))
       r (now (records .exit)) (now (reply .exit)) ⌝ }
@@ -40,7 +40,7 @@ pub fn close(book: &[u8], records: &mut [u8], payload: &[u8], reply: &mut [u8], 
 }
 
 // 0A Abort.
-pub fn abort(book: &[u8], records: &mut [u8], payload: &[u8], reply: &mut [u8], at: Spot) -> Said
+pub fn abort(book: &[u8], records: &mut [u8], payload: &[u8], reply: &mut [u8], at: Place) -> Said
     requires { ⌜ Named Abort (now book) (now records) (now payload) (now reply) at ⌝ }
     ensures { λ r. ⌜ Obeys (obey Abort) (now (book .entry)) (now (records .entry)) (now (payload .entry)) (now (reply .entry))
       r (now (records .exit)) (now (reply .exit)) ⌝ }

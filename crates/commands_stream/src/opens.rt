@@ -1,5 +1,5 @@
 // 06 Open: the endpoint opens and awaits its channel, where no other awaits one.
-use commands_checks::preambles::Spot;
+use book::places::Place;
 use rules::Said;
 use rules::layout::CHANNEL;
 use rules::layout::RECORD;
@@ -33,7 +33,7 @@ fn none_awaits(records: &[u8], count: usize) -> bool
     true
 }
 
-pub fn open_up(book: &[u8], records: &mut [u8], payload: &[u8], reply: &mut [u8], at: Spot) -> Said
+pub fn open_up(book: &[u8], records: &mut [u8], payload: &[u8], reply: &mut [u8], at: Place) -> Said
     requires { ⌜ Named OpenUp (now book) (now records) (now payload) (now reply) at ⌝ }
     ensures { λ r. ⌜ Obeys (obey OpenUp) (now (book .entry)) (now (records .entry)) (now (payload .entry)) (now (reply .entry))
       r (now (records .exit)) (now (reply .exit)) ⌝ }

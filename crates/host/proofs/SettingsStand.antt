@@ -8,13 +8,13 @@ use lib.ListN.{length, take, drop, getD, length-drop, length-take}
 use lib.Seq.{getD-drop, drop-drop}
 use lib.Dec.{eqb}
 use borrow.Author.Tests.{eq-eqb, ne-eqb, eqb-true, eqb-false}
-use Rattle.rules.specs.Walks.{placeIn}
 use Rattle.rules.specs.Saved.{recordsPlace, recordRoom, headRoom, recordsOf}
 use Rattle.rules.specs.Host.{refusalOf, Shown, settingsCall}
-use Rattle.rules.specs.declared.Place.{Place}
-use Rattle.rules.specs.declared.Place.the-variants.{Unknown, Known}
 use Rattle.rules.proofs.Tests.{Told?, told, passed, failed}
 use Rattle.octets.specs.Patch.{part}
+use Rattle.book.specs.Places.{knownAt, placeIn}
+use Rattle.book.specs.declared.places.Located.{Located}
+use Rattle.book.specs.declared.places.Located.the-variants.{Unknown, Known}
 use Rattle.saved.specs.Records.{configAt}
 use Rattle.saved.proofs.Configs.{size-short, config-part}
 use Rattle.bridge.proofs.Refusing.{Calm, calm}
@@ -45,7 +45,7 @@ module _ (book saved : List ℕ) (seid : ℕ) where
 
   -- ---- Somewhere
 
-  module _ (calm : Calm book saved) (i kind from size : ℕ) (there : placeIn (ours seid) book ≡ Known i kind from size) where
+  module _ (calm : Calm book saved) (i kind from size : ℕ) (there : placeIn (ours seid) book ≡ knownAt i kind from size) where
     abbrev records : List ℕ
     records = recordsOf saved
 
@@ -123,8 +123,8 @@ module _ (book saved : List ℕ) (seid : ℕ) where
           place = offer-place none;
           shows =
             offer-part
-              (offer-shown book saved (ours seid) calm i kind from size there records refl (configAt i records) (part from size book) refl
-                (config-long ∙ none) refl);
+              (offer-shown book saved (ours seid) calm i kind from size there records refl (configAt i records)
+                (part from size book) refl (config-long ∙ none) refl);
           inside = offer-within
         }
 
@@ -172,11 +172,11 @@ module _ (book saved : List ℕ) (seid : ℕ) where
     pub told-none : n ≡ 0 → Calm book saved
     told-none = quiet (told (eqb (refusalOf book saved) 0))
 
-    by-place : Calm book saved → (n ≡ 0 → ⊥) → (p : Place) → placeIn (ours seid) book ≡ p → Stands book saved seid (nowhereBy n)
+    by-place : Calm book saved → (n ≡ 0 → ⊥) → (p : Located) → placeIn (ours seid) book ≡ p → Stands book saved seid (nowhereBy n)
     by-place calm h Unknown at =
         let shown = missing-shown book saved (ours seid) calm at in
         rw (e ∙ ap (λ (x : Shown). x .number) shown) (missing calm at)
-    by-place calm h (Known i kind from size) at = absurd (h (e ∙ sym (answered calm i kind from size at)))
+    by-place calm h (Known p) at = absurd (h (e ∙ sym (answered calm (p .index) (p .kind) (p .from) (p .size) at)))
 
     by-refusal : (n ≡ 0 → ⊥) → Told? (eqb (refusalOf book saved) 0) → Stands book saved seid (nowhereBy n)
     by-refusal h (passed t) =

@@ -25,8 +25,8 @@ quiet c =
     let known = c .before .before in
     calm _ _ _ (λ i. known .shared-slice-known2 .given i .fits) (c .before .refusal .ensures) (c .if1 .left)
 
-place-requires : tie.Need-place-requires
-place-requires c κs = quiet c .numbered
+locate-requires : tie.Need-locate-requires
+locate-requires c κs = quiet c .numbered
 
 enum-told : tie.Need-enum-told
 enum-told c = search needs
@@ -34,8 +34,8 @@ enum-told c = search needs
 nowhere-requires-2 : tie.Need-nowhere-requires-2
 nowhere-requires-2 c κs = search needs
 
-enum-known-place : tie.Need-enum-known-place
-enum-known-place c = search needs
+enum-known-located : tie.Need-enum-known-located
+enum-known-located c = search needs
 
 records-of-requires : tie.Need-records-of-requires
 records-of-requires c κs = quiet (c .before .before .before .before) .long
@@ -46,7 +46,7 @@ get-requires c κs =
     let placed = told .before .before in
     let args = placed .before .before .before .before .before .args in
     record-there (args .book .now) (args .saved .now) (args .seid) (quiet (placed .before)) _ _ _ _
-      (sym (placed .place .ensures) ∙ told .place2 .given .1) _ (c .records-of .ensures)
+      (sym (placed .locate .ensures) ∙ told .located .given .1) _ (c .records-of .ensures)
 
 standing-requires : tie.Need-standing-requires
 standing-requires c κs = search needs
@@ -57,7 +57,7 @@ returns-2 c =
     let placed = told .before .before in
     let args = placed .before .before .before .before .before .args in
     missing-stands (args .book .now) (args .saved .now) (args .seid) (quiet (placed .before)) (c .nowhere2 .result)
-      (sym (placed .place .ensures) ∙ told .enum-told .given .1) (c .nowhere2 .ensures)
+      (sym (placed .locate .ensures) ∙ told .enum-told .given .1) (c .nowhere2 .ensures)
 
 returns-3 : tie.Need-returns-3
 returns-3 c =
@@ -66,7 +66,7 @@ returns-3 c =
     let placed = told .before .before in
     let args = placed .before .before .before .before .before .args in
     known-stands (args .book .now) (args .saved .now) (args .seid) (quiet (placed .before)) _ _ _ _
-      (sym (placed .place .ensures) ∙ told .place2 .given .1) _ (got .before .records-of .ensures) (got .get .result)
+      (sym (placed .locate .ensures) ∙ told .located .given .1) _ (got .before .records-of .ensures) (got .get .result)
       (c .standing .result) (got .get .ensures) (c .standing .ensures)
 
 pub status-spec : {M : Type 1} → statement M
@@ -76,10 +76,10 @@ status-spec =
     refusal-requires
     nowhere-requires
     returns
-    place-requires
+    locate-requires
     enum-told
     nowhere-requires-2
-    enum-known-place
+    enum-known-located
     records-of-requires
     get-requires
     standing-requires

@@ -5,14 +5,14 @@ use Rattle.commands_checks.proofs.Meeting.{met-unknown, met-inside, met
 use Rattle.commands_checks.proofs.preambles.meets.Statement.{statement}
 use Rattle.commands_checks.proofs.preambles.meets.Tie as tie
 
-place-requires : tie.Need-place-requires
-place-requires c κs = search needs
+locate-requires : tie.Need-locate-requires
+locate-requires c κs = search needs
 
 enum-told : tie.Need-enum-told
 enum-told c = search needs
 
-enum-known-place : tie.Need-enum-known-place
-enum-known-place c = search needs
+enum-known-located : tie.Need-enum-known-located
+enum-known-located c = search needs
 
 get-requires : tie.Need-get-requires
 get-requires c κs =
@@ -20,7 +20,7 @@ get-requires c κs =
     let placed = known .before .before in
     let start = placed .before .before .before in
     met-inside (start .args .signal) _ _ (start .args .seid) (start .pre .0) (start .pre .1)
-      (sym (placed .place .ensures) ∙ known .place2 .given .1)
+      (sym (placed .locate .ensures) ∙ known .located .given .1)
 
 may-requires : tie.Need-may-requires
 may-requires c κs = search needs
@@ -32,7 +32,7 @@ returns : tie.Need-returns
 returns c =
     let placed = c .before .before in
     let start = placed .before .before .before in
-    met-unknown (start .args .signal) _ _ (start .args .seid) (sym (placed .place .ensures) ∙ c .enum-told .given .1)
+    met-unknown (start .args .signal) _ _ (start .args .seid) (sym (placed .locate .ensures) ∙ c .enum-told .given .1)
 
 returns-2 : tie.Need-returns-2
 returns-2 c =
@@ -42,7 +42,7 @@ returns-2 c =
     let placed = known .before .before in
     let start = placed .before .before .before in
     met-here (start .args .signal) _ _ (start .args .seid) (start .pre .0) (start .pre .1)
-      (sym (placed .place .ensures) ∙ known .place2 .given .1) (got .get .ensures) (tested .may .ensures) (c .if1 .taken)
+      (sym (placed .locate .ensures) ∙ known .located .given .1) (got .get .ensures) (tested .may .ensures) (c .if1 .taken)
 
 returns-3 : tie.Need-returns-3
 returns-3 c =
@@ -52,16 +52,16 @@ returns-3 c =
     let placed = known .before .before in
     let start = placed .before .before .before in
     met-wrong (start .args .signal) _ _ (start .args .seid) (start .pre .0) (start .pre .1)
-      (sym (placed .place .ensures) ∙ known .place2 .given .1) (got .get .ensures) (tested .may .ensures) (c .before .if1 .left)
+      (sym (placed .locate .ensures) ∙ known .located .given .1) (got .get .ensures) (tested .may .ensures) (c .before .if1 .left)
       (c .wrong-state .ensures)
 
 pub meets-spec : {M : Type 1} → statement M
 meets-spec =
     tie.close
     (tie.spec
-    place-requires
+    locate-requires
     enum-told
-    enum-known-place
+    enum-known-located
     get-requires
     may-requires
     wrong-state-requires

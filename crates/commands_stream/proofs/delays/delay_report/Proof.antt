@@ -8,14 +8,14 @@ use borrow.Author.Tests.{eqb-true}
 use lib.ListN.{length}
 use Rattle.rules.specs.Commands.{lengthRight}
 use Rattle.rules.specs.declared.Signal.the-variants.{DelayReport}
+use Rattle.book.specs.declared.places.Place.{Place}
 use Rattle.commands_checks.specs.Named.{Named}
-use Rattle.commands_checks.specs.declared.preambles.Spot.{Spot}
 use Rattle.commands_checks.proofs.Meeting.{stands}
 use Rattle.commands_stream.proofs.Moving.{delay-refused, delay-moves}
 use Rattle.commands_stream.proofs.delays.delay_report.Statement.{statement}
 use Rattle.commands_stream.proofs.delays.delay_report.Tie as tie
 
-three : {book records p reply : List ℕ} {at : Spot} → Named DelayReport book records p reply at → length p ≡ 3
+three : {book records p reply : List ℕ} {at : Place} → Named DelayReport book records p reply at → length p ≡ 3
 unfolding lengthRight
 three {p = p} call = eqb-true (length p) 3 (stands call .long)
 
