@@ -43,7 +43,7 @@ static size_t read_trace(const char *name)
 }
 
 static const uint8_t *book = trace;
-static size_t book_length, records, lent, size = 672, reply_length = 64;
+static size_t book_length, size = 672, reply_length = 64;
 
 static inline __attribute__((always_inline)) uint64_t take(const step *s)
 {
@@ -52,31 +52,28 @@ static inline __attribute__((always_inline)) uint64_t take(const step *s)
         if (bawbeenor_fresh(s->octets, s->length, saved, sizeof saved) == 0) {
             book = s->octets;
             book_length = s->length;
-            records = book[5];
-            lent = BAWBEENOR_SAVED(records);
         }
         return 0;
     case REBOOK:
         if (bawbeenor_check(s->octets, s->length) == 0) {
             book = s->octets;
             book_length = s->length;
-            lent = records == book[5] ? BAWBEENOR_SAVED(records) : 0;
         }
         return 0;
     case SIZE: size = s->numbers[0]; return 0;
     case AREA: reply_length = s->numbers[0]; return 0;
     case PACKET: {
-        bawbeenor_answer a = bawbeenor_packet(book, book_length, size, saved, lent, s->octets, s->length, reply, reply_length);
+        bawbeenor_answer a = bawbeenor_packet(book, book_length, size, saved, sizeof saved, s->octets, s->length, reply, reply_length);
         return a.number + a.length;
     }
     case UP:
     case DOWN:
-    case LOST: return bawbeenor_event(book, book_length, saved, lent, (uint8_t)(s->kind - UP), (uint8_t)s->numbers[0]);
+    case LOST: return bawbeenor_event(book, book_length, saved, sizeof saved, (uint8_t)(s->kind - UP), (uint8_t)s->numbers[0]);
     case SETTINGS: {
-        bawbeenor_span a = bawbeenor_settings(book, book_length, saved, lent, (uint8_t)s->numbers[0]);
+        bawbeenor_span a = bawbeenor_settings(book, book_length, saved, sizeof saved, (uint8_t)s->numbers[0]);
         return a.number + a.length;
     }
-    case DELAY: return bawbeenor_delay(book, book_length, saved, lent, (uint8_t)s->numbers[0]).tenths;
+    case DELAY: return bawbeenor_delay(book, book_length, saved, sizeof saved, (uint8_t)s->numbers[0]).tenths;
     case CUT: {
         bawbeenor_written a =
             bawbeenor_cut(s->numbers[0], (uint8_t)s->numbers[1], (uint8_t)s->numbers[2], (uint8_t)s->numbers[3], s->octets,

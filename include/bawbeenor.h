@@ -27,8 +27,8 @@ extern "C" {
 
 #define BAWBEENOR_ENDPOINTS 16         /* of a book, at most */
 #define BAWBEENOR_BOOK_LONGEST 1078    /* 6 + 16 * (3 + 64) */
-#define BAWBEENOR_SAVED(endpoints) (520 + 80 * (size_t)(endpoints))
-#define BAWBEENOR_SAVED_LONGEST 1800   /* BAWBEENOR_SAVED(BAWBEENOR_ENDPOINTS) */
+#define BAWBEENOR_SAVED(endpoints) (521 + 80 * (size_t)(endpoints))
+#define BAWBEENOR_SAVED_LONGEST 1801   /* BAWBEENOR_SAVED(BAWBEENOR_ENDPOINTS) */
 #define BAWBEENOR_REPLY 64             /* of a reply area, at least; no reply's payload is longer */
 #define BAWBEENOR_SIZE_SMALLEST 48     /* packet sizes */
 #define BAWBEENOR_SIZE_LARGEST 672
@@ -59,9 +59,9 @@ enum {
 uint8_t bawbeenor_check(const uint8_t *book, size_t book_length);
 
 /* ---- The saved connection: BAWBEENOR_SAVED(endpoints) octets, docs/SAVED.md draws them. The host keeps them between calls, and
-   through a restart if it likes: an area that holds no legal connection is told 12. Octets behind are never touched, and never
-   looked at: that a connection was begun over a book of more endpoints does not show. A host whose book can change keeps the
-   number of endpoints beside the area, and begins afresh where it differs. */
+   through a restart if it likes: an area that holds no legal connection is told 12, and so is one that was begun over a book of
+   more endpoints, or of fewer: its first octet counts them. An area may be longer, and lent whole: octets behind the last record
+   are never touched, and never looked at. */
 
 /* Begins: every endpoint idle, nothing gathered. 1 to 7, or 12 where the area is too short. */
 uint8_t bawbeenor_fresh(const uint8_t *book, size_t book_length, uint8_t *saved, size_t saved_length);
@@ -118,6 +118,24 @@ typedef struct {
 
 /* The delay that the far end reported for it. 1 to 7, 12, 10 where the book has no such SEID; a refusal shows unreported. */
 bawbeenor_lag bawbeenor_delay(const uint8_t *book, size_t book_length, const uint8_t *saved, size_t saved_length, uint8_t seid);
+
+#define BAWBEENOR_STATUS_DECLARED 1
+
+enum { BAWBEENOR_IDLE = 0, BAWBEENOR_CONFIGURED = 1, BAWBEENOR_OPEN = 2, BAWBEENOR_STREAMING = 3, BAWBEENOR_CLOSING = 4,
+       BAWBEENOR_ABORTING = 5 };
+enum { BAWBEENOR_NO_CHANNEL = 0, BAWBEENOR_CHANNEL_AWAITED = 1, BAWBEENOR_CHANNEL_UP = 2 };
+
+typedef struct {
+    uint8_t number;
+    uint8_t state;
+    uint8_t channel;
+    uint8_t far_seid; /* the far end's SEID; 0 where there is none */
+} bawbeenor_standing;
+
+/* How it stands: its state, its channel and the far end's SEID. 1 to 7, 12, 10 where the book has no such SEID; a refusal shows
+   idle, no channel, 0. */
+bawbeenor_standing bawbeenor_status(const uint8_t *book, size_t book_length, const uint8_t *saved, size_t saved_length,
+                                    uint8_t seid);
 
 /* ---- The cutter: a message as packets of at most `size` octets, to be sent in a row */
 

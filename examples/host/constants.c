@@ -92,6 +92,13 @@ int main(void)
     bawbeenor_lag d = bawbeenor_delay(book, n, saved, sizeof saved, 2);
     HOLDS(d.number == BAWBEENOR_DONE && !d.reported && d.tenths == 0);
 
+    bawbeenor_standing t = bawbeenor_status(book, n, saved, sizeof saved, 2);
+    HOLDS(t.number == BAWBEENOR_DONE && t.state == BAWBEENOR_IDLE && t.channel == BAWBEENOR_NO_CHANNEL && t.far_seid == 0);
+    t = bawbeenor_status(book, n, saved, sizeof saved, 17);
+    HOLDS(t.number == BAWBEENOR_DOES_NOT_APPLY && t.state == BAWBEENOR_IDLE && t.far_seid == 0);
+    n = make_book(BAWBEENOR_ENDPOINTS - 1, 6); /* one endpoint fewer than the connection was begun over */
+    HOLDS(bawbeenor_status(book, n, saved, sizeof saved, 2).number == BAWBEENOR_NOT_LEGAL);
+
     HOLDS(bawbeenor_packets(BAWBEENOR_SIZE_SMALLEST, BAWBEENOR_PAYLOAD_LONGEST) == 11);
     HOLDS(bawbeenor_packets(BAWBEENOR_SIZE_SMALLEST, BAWBEENOR_PAYLOAD_LONGEST + 1) == 0);
     HOLDS(bawbeenor_packets(BAWBEENOR_SIZE_SMALLEST - 1, 0) == 0);

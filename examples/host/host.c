@@ -5,7 +5,7 @@
      host [FILE]      (no FILE: standard input)
 
    reads the steps of the replay program, one a line, and prints its answers, packets to be sent as `> HEX..`. Nothing is
-   allocated, and the library is given all its memory here. The steps `states`, `record` and `gathering` look into the saved
+   allocated, and the library is given all its memory here. The steps `states`, `record`, `count` and `gathering` look into the saved
    connection (docs/SAVED.md), as a test stand does; a bridge has no need of them. */
 #include <stdio.h>
 #include <string.h>
@@ -17,8 +17,7 @@
 static uint8_t book[BAWBEENOR_BOOK_LONGEST];
 static size_t book_length; /* 0: none yet */
 static uint8_t saved[BAWBEENOR_SAVED_LONGEST];
-static size_t records;              /* of the connection in `saved` */
-static size_t lent;                 /* octets of `saved` that are lent */
+static size_t records;              /* of the connection that the last accepted `book` began */
 static size_t size = BAWBEENOR_SIZE_LARGEST;
 static size_t reply_length = BAWBEENOR_REPLY;
 static uint8_t reply[65535];        /* BAWBEENOR_REPLY octets would do: the step `area` asks for more */
@@ -138,14 +137,13 @@ static void print_octets(const char *before, const uint8_t *from, size_t n)
         printf("%s%02X", before, from[i]);
 }
 
-/* ---- The book. A connection has one record for each entry. Its octets alone do not tell how many it has, so over a book of
-   another length it is lent as nothing, and told 12. */
+/* ---- The book. The saved area is lent whole: its first octet tells how many records a connection has, and over a book of
+   another number of endpoints it is told 12. */
 
 static void keep_book(void)
 {
     memcpy(book, data, data_length);
     book_length = data_length;
-    lent = records == book[5] ? BAWBEENOR_SAVED(records) : 0;
 }
 
 static void take_book(bool fresh)
@@ -165,7 +163,7 @@ static void take_book(bool fresh)
 
 static void take_packet(void)
 {
-    bawbeenor_answer a = bawbeenor_packet(book, book_length, size, saved, lent, data, data_length, reply, reply_length);
+    bawbeenor_answer a = bawbeenor_packet(book, book_length, size, saved, sizeof saved, data, data_length, reply, reply_length);
     if (a.number != BAWBEENOR_DONE) {
         printf("refused %u\n", a.number);
         return;
@@ -185,14 +183,14 @@ static void take_packet(void)
 
 static void take_event(uint8_t kind, uint8_t seid)
 {
-    printf("event %u\n", bawbeenor_event(book, book_length, saved, lent, kind, seid));
+    printf("event %u\n", bawbeenor_event(book, book_length, saved, sizeof saved, kind, seid));
 }
 
 /* ---- Questions */
 
 static void show_settings(uint8_t seid)
 {
-    bawbeenor_span s = bawbeenor_settings(book, book_length, saved, lent, seid);
+    bawbeenor_span s = bawbeenor_settings(book, book_length, saved, sizeof saved, seid);
     printf("settings %u", s.number);
     print_octets(" ", (s.area == BAWBEENOR_IN_BOOK ? book : saved) + s.offset, s.length);
     putchar('\n');
@@ -200,7 +198,7 @@ static void show_settings(uint8_t seid)
 
 static void show_delay(uint8_t seid)
 {
-    bawbeenor_lag d = bawbeenor_delay(book, book_length, saved, lent, seid);
+    bawbeenor_lag d = bawbeenor_delay(book, book_length, saved, sizeof saved, seid);
     printf("delay %u %s %u\n", d.number, d.reported ? "reported" : "unreported", d.tenths);
 }
 
@@ -217,7 +215,15 @@ static int named(size_t i, const char *const *names, int count)
     return -1;
 }
 
+enum { LINK = 1, HEAD = 16 }; /* where the link part begins, and the octets of a record before its configuration */
+
 static uint8_t *record_at(size_t i) { return saved + BAWBEENOR_SAVED(i); }
+
+static void show_status(uint8_t seid)
+{
+    bawbeenor_standing t = bawbeenor_status(book, book_length, saved, sizeof saved, seid);
+    printf("status %u %s %s %u\n", t.number, states[t.state], channels[t.channel], t.far_seid);
+}
 
 static void show_states(void)
 {
@@ -230,7 +236,7 @@ static void show_states(void)
             printf("%u ", 256u * r[5] + r[6]);
         if (r[7] == 0)
             putchar('-');
-        print_octets("", r + 8, r[7]);
+        print_octets("", r + HEAD, r[7]);
         putchar('\n');
     }
 }
@@ -264,7 +270,7 @@ static bool put_record(void)
     r[5] = (uint8_t)(tenths / 256);
     r[6] = (uint8_t)(tenths % 256);
     r[7] = (uint8_t)data_length;
-    memcpy(r + 8, data, data_length);
+    memcpy(r + HEAD, data, data_length);
     return true;
 }
 
@@ -277,11 +283,12 @@ static bool put_gathering(void)
             return false;
     if (!octets(6) || data_length > BAWBEENOR_PAYLOAD_LONGEST)
         return false;
-    saved[0] = 1;
-    memcpy(saved + 1, head, 5);
-    saved[6] = (uint8_t)(data_length / 256);
-    saved[7] = (uint8_t)(data_length % 256);
-    memcpy(saved + 8, data, data_length);
+    uint8_t *link = saved + LINK;
+    link[0] = 1;
+    memcpy(link + 1, head, 5);
+    link[6] = (uint8_t)(data_length / 256);
+    link[7] = (uint8_t)(data_length % 256);
+    memcpy(link + 8, data, data_length);
     return true;
 }
 
@@ -335,12 +342,16 @@ static bool step(void)
         show_settings(seid);
     else if (is(0, "delay") && word_count == 2 && octet(1, &seid))
         show_delay(seid);
+    else if (is(0, "status") && word_count == 2 && octet(1, &seid))
+        show_status(seid);
     else if (is(0, "states") && word_count == 1)
         show_states();
     else if (is(0, "record") && word_count == 7)
         return put_record();
     else if (is(0, "gathering") && word_count == 2 && is(1, "none"))
-        saved[0] = 0;
+        saved[LINK] = 0;
+    else if (is(0, "count") && word_count == 2)
+        return octet(1, saved);
     else if (is(0, "gathering") && word_count >= 6)
         return put_gathering();
     else
