@@ -14,7 +14,8 @@ ghost use Rattle.saved_events.specs.Events.{Turned, upped, downed, allId
 // Channel up, over `count` records: the awaiting endpoint gets it, else 10.
 pub fn up(records: &mut [u8], count: usize) -> u8
     requires { ⌜ Held count (now records) ⌝ }
-    ensures { λ r. ⌜ _≡_ {A = Turned} (record { number = r; records = now (records .exit) }) (upped count (now (records .entry))) ⌝ }
+    ensures { λ r. ⌜ _≡_ {A = Turned} (record { number = r; records = now (records .exit) })
+        (upped count (now (records .entry))) ⌝ }
 {
     let mut i = 0;
     while i < count {
