@@ -1,5 +1,5 @@
--- The laws of a SEID's place: entry by entry, the walk over places is `find` over the entries, and of a right book the list of the
--- entry that is found lies inside it.
+-- The laws of a SEID's place: entry by entry, the walk over places is `find` over the entries, and of a right book the list of
+-- the entry that is found lies inside it.
 use Prim.Native.Nat.{ℕ, zero, suc, _+_, _≤_, _<_}
 use native.Mathlib.Nat.{add-zero, zero-add}
 use native.Mathlib.Numerals.{add-one}

@@ -1,5 +1,5 @@
--- The records written behind the other parts of an area, and then the gathering's mark, and the count, set there: each is one octet
--- of what stands before the records.
+-- The records written behind the other parts of an area, and then the gathering's mark, and the count, set there: each is one
+-- octet of what stands before the records.
 use Prim.Native.Nat.{ℕ, suc, _-_, _≤_}
 use native.Mathlib.Omega.{arith}
 use mathlib.Core.Path.{_≡_, refl, ap, _∙_}

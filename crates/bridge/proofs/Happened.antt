@@ -11,8 +11,10 @@ use lib.Dec.{eqb}
 use borrow.Author.Tests.{ne-eqb}
 use borrow.Rule.Slice.PartMut.{putMid}
 use Rattle.rules.specs.Book.{bookOf, Entry, Found, unknown, known, find}
-use Rattle.rules.specs.Endpoints.{Ends, Connection, endAt, awaiting, isUp, upIn, forgotten, withEnds, legal, Moved, downAt, happens}
-use Rattle.rules.specs.Saved.{countRoom, linkRoom, recordsPlace, linkOf, recordsOf, endsIn, storeEnds, gatheringIn, storeGathering, connectionIn, store}
+use Rattle.rules.specs.Endpoints.{Ends, Connection, endAt, awaiting, isUp, upIn, forgotten, withEnds, legal, Moved, downAt}
+use Rattle.rules.specs.Endpoints.{happens}
+use Rattle.rules.specs.Saved.{countRoom, linkRoom, recordsPlace, linkOf, recordsOf, endsIn, storeEnds, gatheringIn}
+use Rattle.rules.specs.Saved.{storeGathering, connectionIn, store}
 use Rattle.rules.specs.Host.{numberOr, refusalOf, eventCall}
 use Rattle.rules.specs.declared.OurSeid.{OurSeid}
 use Rattle.rules.specs.declared.Event.{Event}
@@ -89,7 +91,8 @@ module _ (book saved : List ℕ) where
         → Happens book saved e number back
       unfolding eventCall numberOr recordsOf
       not-moved h t =
-          ap (λ (x : Turned). record { number = x .number; saved = putMid recordsPlace (length saved - recordsPlace) saved (x .records) }) t
+          ap (λ (x : Turned). record
+              { number = x .number; saved = putMid recordsPlace (length saved - recordsPlace) saved (x .records) }) t
           ∙ ap (λ (x : List ℕ). record { number = 10; saved = x })
               (tail-back recordsPlace saved behind ∙ take-append-drop recordsPlace saved)
           ∙ sym (rw (calm .allowed, h))
@@ -101,7 +104,8 @@ module _ (book saved : List ℕ) where
       unfolding eventCall numberOr store withEnds connectionIn recordsOf
       moved ends h t =
           let counted = same-count e (withEnds ends connection) (ap (λ (x : Moved). x .connection) h) in
-          ap (λ (x : Turned). record { number = x .number; saved = putMid recordsPlace (length saved - recordsPlace) saved (x .records) }) t
+          ap (λ (x : Turned). record
+              { number = x .number; saved = putMid recordsPlace (length saved - recordsPlace) saved (x .records) }) t
           ∙ ap (λ (x : List ℕ). record { number = 0; saved = x })
               (tail-back recordsPlace saved (storeEnds ends behind)
                ∙ ap (λ (x : List ℕ). x ++ storeEnds ends behind) (front-stays ends counted))
@@ -123,7 +127,8 @@ module _ (book saved : List ℕ) where
         turned : _≡_ {A = Turned} (record { number = number; records = m }) (upped (length (bookOf book)) behind)
         turned = t ∙ rw (e, behind-whole recordsPlace saved)
 
-        go : Told? (eqb (awaiting ends) 0) → Happens book saved event number (putMid recordsPlace (length saved - recordsPlace) saved m)
+        go : Told? (eqb (awaiting ends) 0)
+            → Happens book saved event number (putMid recordsPlace (length saved - recordsPlace) saved m)
         go (passed p) = not-moved event number m (this ∙ rw p) (turned ∙ rw p)
         go (failed p) = moved event number m (upIn ends) (this ∙ rw p) (turned ∙ rw p)
 
@@ -149,7 +154,8 @@ module _ (book saved : List ℕ) where
             moved event number m (set ends i (forgotten (endAt ends i))) (this ∙ rw (e, p)) (turned ∙ rw (e, p))
         by-channel i n e (failed p) = not-moved event number m (this ∙ rw (e, p)) (turned ∙ rw (e, p))
 
-        go : (f : Found) → find s (bookOf book) ≡ f → Happens book saved event number (putMid recordsPlace (length saved - recordsPlace) saved m)
+        go : (f : Found) → find s (bookOf book) ≡ f
+            → Happens book saved event number (putMid recordsPlace (length saved - recordsPlace) saved m)
         go unknown e = not-moved event number m (this ∙ rw e) (turned ∙ rw e)
         go (known i n) e = by-channel i n e (told (isUp (endAt ends i .channel)))
 

@@ -1,5 +1,5 @@
--- A packet on a right saved area: the room and the records are two halves that do not touch, so what is gathered and what a command
--- moves are stored side by side, as the definition of the call stores them at once.
+-- A packet on a right saved area: the room and the records are two halves that do not touch, so what is gathered and what a
+-- command moves are stored side by side, as the definition of the call stores them at once.
 use Prim.Native.Nat.{ℕ, _+_, _≤_}
 use mathlib.Core.Path.{_≡_, sym, ap, subst, _∙_}
 use mathlib.Core.List.{List, _∷_, _++_}
@@ -12,7 +12,8 @@ use Rattle.rules.specs.Octets.{front, octetsIn}
 use Rattle.rules.specs.Book.{bookOf}
 use Rattle.rules.specs.Packets.{Message, gather}
 use Rattle.rules.specs.Endpoints.{Ends}
-use Rattle.rules.specs.Saved.{recordsPlace, areaFor, countIn, linkOf, recordsOf, gatheringAt, gatheringIn, endsIn, connectionIn, store}
+use Rattle.rules.specs.Saved.{recordsPlace, areaFor, countIn, linkOf, recordsOf, gatheringAt, gatheringIn, endsIn, connectionIn}
+use Rattle.rules.specs.Saved.{store}
 use Rattle.rules.specs.Host.{Told, nothingSaid, turnOf, takes, Answered}
 use Rattle.rules.specs.Wires.{nextOf}
 use Rattle.rules.specs.declared.Next.the-variants.{Single, Complete}

@@ -42,7 +42,8 @@ module _ (book saved payload reply : List ℕ) where
     pub as-served : Obeys (answering kind signal) book records payload reply words records′ reply′
       → told ≡ spoken label signal words
       → _≡_ {A = Answered}
-          (record { told = told; saved = take recordsPlace saved ++ (records′ ++ drop (length saved - recordsPlace) (drop recordsPlace saved)); reply = reply′ })
+          (record { told = told; saved = take recordsPlace saved ++
+              (records′ ++ drop (length saved - recordsPlace) (drop recordsPlace saved)); reply = reply′ })
           (served book message saved reply)
     unfolding served did answer recordsOf
     as-served e t =

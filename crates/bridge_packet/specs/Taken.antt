@@ -8,7 +8,8 @@ use lib.Dec.{eqb}
 use Rattle.rules.specs.Octets.{if_then_else_, front}
 use Rattle.rules.specs.Book.{bookNumber, bookOf}
 use Rattle.rules.specs.Packets.{Message, gather}
-use Rattle.rules.specs.Saved.{countRoom, recordsPlace, linkOf, recordsOf, pairIn, gatheringAt, gatheringIn, storeGathering, endsIn, storeEnds, connectionIn, store}
+use Rattle.rules.specs.Saved.{countRoom, recordsPlace, linkOf, recordsOf, pairIn, gatheringAt, gatheringIn, storeGathering}
+use Rattle.rules.specs.Saved.{endsIn, storeEnds, connectionIn, store}
 use Rattle.rules.specs.Saved.{savedRight}
 use Rattle.rules.specs.Commands.{answer}
 use Rattle.rules.specs.Host.{Told, nothingSaid, toldOf, payloadOf, takes, Answered}

@@ -1,5 +1,5 @@
-// Every call of the bridge by one function: what a host does is a row of its steps. It adds nothing to the calls, and its contract
-// is the step of the definitions' sequences, so that what is proved of sequences holds of every host.
+// Every call of the bridge by one function: what a host does is a row of its steps. It adds nothing to the calls, and its
+// contract is the step of the definitions' sequences, so that what is proved of sequences holds of every host.
 use rules::Event;
 use rules::Heard;
 use rules::OurSeid;

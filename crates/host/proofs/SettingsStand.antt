@@ -123,7 +123,8 @@ module _ (book saved : List ℕ) (seid : ℕ) where
           place = offer-place none;
           shows =
             offer-part
-              (offer-shown book saved (ours seid) calm i kind from size there records refl (configAt i records) (part from size book) refl
+              (offer-shown book saved (ours seid) calm i kind from size there records refl (configAt i records)
+                  (part from size book) refl
                 (config-long ∙ none) refl);
           inside = offer-within
         }

@@ -56,7 +56,8 @@ part-take (suc from) size n [] h = rw (take-nil {A = ℕ} n)
 part-take (suc from) size zero (x ∷ d) h = absurd (omega arith)
 part-take (suc from) size (suc n) (x ∷ d) h = part-take from size n d (omega arith)
 
-pub part-before : (from size at : ℕ) (s d : List ℕ) → from + size ≤ at → at ≤ length d → part from size (patch at s d) ≡ part from size d
+pub part-before : (from size at : ℕ) (s d : List ℕ) → from + size ≤ at → at ≤ length d → part from size (patch at s d)
+    ≡ part from size d
 unfolding patch part
 part-before from size at s d h k =
     let room : length (take at d) ≡ at = length-take-le at d k in
@@ -108,7 +109,8 @@ comm-split a m b n z s t i j p q r e =
     ∙ patch-split (a ++ (s ++ b)) n z t j (simp length-append (omega arith)) r
     ∙ sym (five a s b t z)
     ∙ sym (ap (patch i s)
-        (ap (patch j t) (five a m b n z) ∙ patch-split (a ++ (m ++ b)) n z t j (simp length-append (omega arith)) r ∙ sym (five a m b t z))
+        (ap (patch j t) (five a m b n z) ∙ patch-split (a ++ (m ++ b)) n z t j (simp length-append (omega arith)) r
+            ∙ sym (five a m b t z))
       ∙ patch-split a m (b ++ (t ++ z)) s i p q)
 
 pub patch-comm : (i : ℕ) (s : List ℕ) (j : ℕ) (t d : List ℕ) → i + length s ≤ j → j + length t ≤ length d

@@ -1,4 +1,5 @@
-// Octets in areas that are lent: one way to write them, one to read a part, one to compare. Everything above writes through `put`.
+// Octets in areas that are lent: one way to write them, one to read a part, one to compare. Everything above writes through
+// `put`.
 ghost use mathlib.Core.Path.{_≡_};
 ghost use Prim.Native.Nat.{_+_, _≤_};
 ghost use lib.ListN.{length};

@@ -13,7 +13,8 @@ use Rattle.rules.proofs.Lists.{items-shown}
 use Rattle.rules.specs.Octets.{if_then_else_, some-of, each-of}
 use Rattle.rules.specs.Elements.{Item, whole, short, items, categoryOf, strange, transport, reporting, recovery}
 use Rattle.rules.specs.Elements.{protection, compression, multiplexing, codec, delaying, offersIn, offered}
-use Rattle.rules.specs.Elements.{fixed, isStrange, itemCode, judge, itemCategory, blamed, faultOr, faultPast, faultIn, isOf, has}
+use Rattle.rules.specs.Elements.{fixed, isStrange, itemCode, judge, itemCategory, blamed, faultOr, faultPast, faultIn}
+use Rattle.rules.specs.Elements.{isOf, has}
 use Rattle.rules.specs.Book.{Entry, Book, Found, unknown, known, later, find, upToCodec, shownBy02}
 use Rattle.rules.specs.Packets.{Message}
 use Rattle.rules.specs.Endpoints.{Ends, Connection, idle, freshEnds, freshConnection, endAt, inState}
@@ -263,12 +264,14 @@ discovered-alike (x ∷ ends) (entries {n} {n′} e rest) = rw (alike-seid n n�
 set-at-alike : (ends : Ends) (p : List ℕ) (i : ℕ) (n n′ : Entry) → has 8 (items (drop 2 p)) ≡ false → alikeEntry n n′ ≡ true
     → setAt ends p i n ≡ setAt ends p i n′
 unfolding setAt
-set-at-alike ends p i n n′ unasked e = rw (fault-alike Setting n n′ e (items (drop 2 p)) (setting-passes8 (items (drop 2 p)) unasked))
+set-at-alike ends p i n n′ unasked e = rw
+    (fault-alike Setting n n′ e (items (drop 2 p)) (setting-passes8 (items (drop 2 p)) unasked))
 
 reconfigure-at-alike : (ends : Ends) (p : List ℕ) (i : ℕ) (n n′ : Entry) → alikeEntry n n′ ≡ true
     → reconfigureAt ends p i n ≡ reconfigureAt ends p i n′
 unfolding reconfigureAt
-reconfigure-at-alike ends p i n n′ e = rw (fault-alike Reconfiguring n n′ e (items (drop 1 p)) (reconfiguring-passes8 (items (drop 1 p))))
+reconfigure-at-alike ends p i n n′ e = rw
+    (fault-alike Reconfiguring n n′ e (items (drop 1 p)) (reconfiguring-passes8 (items (drop 1 p))))
 
 shift-one-same : (signal : Signal) (to : State) (s : OurSeid) (ends : Ends) (next next′ : Ends → Outcome) (m m′ : Met)
     → MetAlike m m′ → ((x : Ends) → next x ≡ next′ x) → shiftOne signal to s ends next m ≡ shiftOne signal to s ends next′ m′

@@ -261,7 +261,8 @@ module _ (b saved : List ℕ) (s : OurSeid) where
         (λ t. delay-found (find s (bookOf b)) _)
         (λ f. refused (delay s) n (among-refused (bookNumbers ++ (12 ∷ 10 ∷ [])) n (asked-among b saved) f))
 
-  status-found : (f : Found) (ends : Ends) → Listed saved (status s) (record { answer = stands (standingAt f ends); saved = saved })
+  status-found : (f : Found) (ends : Ends)
+      → Listed saved (status s) (record { answer = stands (standingAt f ends); saved = saved })
   unfolding standingAt refusals refusedWith member
   status-found unknown ends = refused (status s) 10 refl
   status-found (known i n) ends = tells s (endAt ends i)

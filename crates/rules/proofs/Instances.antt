@@ -50,7 +50,8 @@ start-of-both = start-stops (bookOf traceBook) openAndIdle 8 0x04 (0x14 ∷ []) 
 pub open-of-idle :
   answer (bookOf traceBook) openAndIdle (record { label = 8; type = 0; signal = 0x06; payload = 0x14 ∷ [] }) .ends ≡ openAndIdle
 unfolding computed traceBook openAndIdle isAccept shifts
-open-of-idle = unmoved (bookOf traceBook) openAndIdle (record { label = 8; type = 0; signal = 0x06; payload = 0x14 ∷ [] }) refl refl
+open-of-idle = unmoved (bookOf traceBook) openAndIdle (record { label = 8; type = 0; signal = 0x06; payload = 0x14 ∷ [] })
+    refl refl
 
 -- a packet size of 47 is refused with 8
 pub size-refused : packetCall traceBook 47 [] (0x10 ∷ 0x01 ∷ []) (replicate 64 0xEE)

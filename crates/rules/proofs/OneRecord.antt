@@ -1,5 +1,5 @@
--- One record among the saved ones: reading an endpoint reads its record, and storing the endpoints with one of them changed writes
--- that record alone. By induction on the records before it, each of which is stored as it was read.
+-- One record among the saved ones: reading an endpoint reads its record, and storing the endpoints with one of them changed
+-- writes that record alone. By induction on the records before it, each of which is stored as it was read.
 use Prim.Native.Nat.{ℕ, zero, suc, _+_, _*_, _≤_, _<_}
 use mathlib.Core.Path.{_≡_, refl, sym, ap, ap₂, _∙_}
 use mathlib.Core.List.{List, _++_, append-assoc}
@@ -47,7 +47,8 @@ store-one (suc n) (suc i) l e h room right octets =
     let a : suc i * recordRoom ≡ recordRoom + behind = omega arith in
     let b : suc i * recordRoom + recordRoom ≡ recordRoom + (behind + recordRoom) = omega arith in
     ap₂ _++_
-      (end-kept first (first-room n l room) (and-l (recordRight first) (recordsRight n rest) right) (octets-take recordRoom l octets))
+      (end-kept first (first-room n l room) (and-l (recordRight first) (recordsRight n rest) right)
+          (octets-take recordRoom l octets))
       (store-one n i rest e (omega arith) (rest-room n l room) (and-r (recordRight first) (recordsRight n rest) right)
         (octets-drop recordRoom l octets))
     ∙ sym (append-assoc first (take behind rest) (storeEnd e (recordAt i rest) ++ drop (behind + recordRoom) rest))

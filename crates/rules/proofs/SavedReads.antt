@@ -19,7 +19,8 @@ use Rattle.rules.specs.Book.{bookOf}
 use Rattle.rules.specs.Packets.{Gathering, longest}
 use Rattle.rules.specs.Endpoints.{Endpoint, Ends, Connection, withEnds, freshConnection}
 use Rattle.rules.specs.Saved.{countRoom, gatheringRoom, linkRoom, recordsPlace, recordRoom, headRoom, configRoom}
-use Rattle.rules.specs.Saved.{areaFor, countIn, linkOf, recordsOf, unused, pairIn, stateIn, stateOctet, channelIn, channelOctet}
+use Rattle.rules.specs.Saved.{areaFor, countIn, linkOf, recordsOf, unused, pairIn, stateIn, stateOctet, channelIn}
+use Rattle.rules.specs.Saved.{channelOctet}
 use Rattle.rules.specs.Saved.{delayIn, delayMark, delayTenths, endpointIn, recordRight, headOf, storeEnd}
 use Rattle.rules.specs.Saved.{endsIn, recordsRight, storeEnds, gatheringAt, gatheringIn, gatheringOctetsRight}
 use Rattle.rules.specs.Saved.{gatheringHead, storeGathering, connectionIn, store}
@@ -101,7 +102,8 @@ gathering-back (some g) r = λ i.
     })
 
 -- a stored record is as long as what it replaces, and its octets are right
-pub end-length : (e : Endpoint) (r : List ℕ) → length (e .config) ≤ 64 → length r ≡ recordRoom → length (storeEnd e r) ≡ recordRoom
+pub end-length : (e : Endpoint) (r : List ℕ) → length (e .config) ≤ 64 → length r ≡ recordRoom → length (storeEnd e r)
+    ≡ recordRoom
 unfolding storeEnd headOf
 end-length e r short long = front-length (headOf e ++ e .config) r (omega arith) ∙ long
 

@@ -16,8 +16,10 @@ use Rattle.rules.specs.Book.{Entry, Book, shownBy02, shownBy0C}
 use Rattle.rules.specs.Packets.{Message, Gathering, gather}
 use Rattle.rules.specs.Endpoints.{Endpoint, Ends, Connection, isIdle, keepsNothing, legalEnd, legalEnds, awaiting}
 use Rattle.rules.specs.Endpoints.{takesDelay, farRight, endAt, legal}
-use Rattle.rules.specs.Commands.{Reply, silence, generalReject, accept, Outcome, stays, moves, rejects, rejectsFault, lengthRight}
-use Rattle.rules.specs.Commands.{ourIn, farIn, discovered, discover, offersAt, setAt, configurationAt, reconfigureAt, openAt}
+use Rattle.rules.specs.Commands.{Reply, silence, generalReject, accept, Outcome, stays, moves, rejects, rejectsFault}
+use Rattle.rules.specs.Commands.{lengthRight}
+use Rattle.rules.specs.Commands.{ourIn, farIn, discovered, discover, offersAt, setAt, configurationAt, reconfigureAt}
+use Rattle.rules.specs.Commands.{openAt}
 use Rattle.rules.specs.Commands.{shiftEach, shift, leaveAt, securityAt, delayAt, signalOf, obey, answer}
 use Rattle.rules.specs.Host.{payloadOf, turnOf, takes}
 use Rattle.rules.specs.declared.Rule.the-variants.{Setting, Reconfiguring}

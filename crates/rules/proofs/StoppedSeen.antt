@@ -68,7 +68,8 @@ unfolding rejects signalOf
 two-by signal what code shift (passed is07) = rw (eqb-true signal 0x07 is07)
 two-by signal what code shift (failed other) = rw (eqb-true signal 0x09 (rw other at shift))
 
-two-octets : (m : Message) (what code : ℕ) → shifts m ≡ true → rejects (signalOf (m .signal)) what code ≡ reject (what ∷ code ∷ [])
+two-octets : (m : Message) (what code : ℕ) → shifts m ≡ true → rejects (signalOf (m .signal)) what code
+    ≡ reject (what ∷ code ∷ [])
 unfolding shifts
 two-octets m what code shift =
     two-by (m .signal) what code (and-r (eqb (m .type) 0) (eqb (m .signal) 0x07 || eqb (m .signal) 0x09) shift)

@@ -2,7 +2,8 @@
 use Rattle.rules.specs.Octets.{between, sameOctets, member, isEmpty, some-of, each-of, front}
 use Rattle.rules.specs.Elements.{headed, itemsPast, element, categoryOf, lengthCode, bitsWithin, codecWithin, valueWithin}
 use Rattle.rules.specs.Elements.{offerable, mayFollow, startRight, offerCode, offersIn, offered, fixed, isStrange, itemCode}
-use Rattle.rules.specs.Elements.{noFault, judge, itemCategory, blamed, missing, lacking, faultOr, faultPast, faultIn, isOf, has}
+use Rattle.rules.specs.Elements.{noFault, judge, itemCategory, blamed, missing, lacking, faultOr, faultPast, faultIn}
+use Rattle.rules.specs.Elements.{isOf, has}
 use Rattle.rules.specs.Elements.{clearLow, kept, pick, picks, stored, restored, couldStore}
 use Rattle.rules.specs.Book.{kindRight, mediaType, isSource, listRight, entriesNumber, bookNumber, entriesIn, bookOf}
 use Rattle.rules.specs.Book.{later, find, written, upToCodec, shownBy02, shownBy0C}
@@ -20,12 +21,14 @@ use Rattle.rules.specs.Saved.{endsIn, recordsRight, storeEnds}
 use Rattle.rules.specs.Saved.{gatheringAt, gatheringIn, gatheringOctetsRight, gatheringHead, storeGathering, connectionIn}
 use Rattle.rules.specs.Saved.{store, savedRight}
 use Rattle.rules.specs.Commands.{signalOf, stays, moves, rejects, rejectsFault, lengthRight, ourIn, farIn}
-use Rattle.rules.specs.Commands.{isConfigured, isOpen, isStreaming, isSet, may, wrongState, metAt, meets, preamble, atMet, named, inUse}
+use Rattle.rules.specs.Commands.{isConfigured, isOpen, isStreaming, isSet, may, wrongState, metAt, meets, preamble, atMet}
+use Rattle.rules.specs.Commands.{named, inUse}
 use Rattle.rules.specs.Commands.{discovered, discover, offersAt, settled, setAt, configurationAt, reconfigureAt, openAt}
 use Rattle.rules.specs.Commands.{shiftOne, shiftEach, shift, leaveAt, securityAt, delayAt, obey, answer}
 use Rattle.rules.specs.Host.{checkCall, numberOr, savedNumber, refusalOf, packetRefusal, freshCall, nothingSaid, said}
 use Rattle.rules.specs.Host.{toldOf, payloadOf, turnOf, takes, packetCall, eventCall, settingsOf, shownAt, settingsCall}
-use Rattle.rules.specs.Host.{heard, heardAt, delayCall, standing, nowhere, standingAt, statusCall, packetsCall, cutRefusal, cutCall}
+use Rattle.rules.specs.Host.{heard, heardAt, delayCall, standing, nowhere, standingAt, statusCall, packetsCall}
+use Rattle.rules.specs.Host.{cutRefusal, cutCall}
 use Rattle.rules.specs.Sessions.{kept as keptBy, answered, asked, call, answers, after}
 
 unfoldable pub computed : Unit {0}
@@ -40,7 +43,8 @@ unfolding between sameOctets member isEmpty some-of each-of front headed itemsPa
     legal inState withChannel withDelay withConfig forgotten leaving endAt upIn withEnds downAt happens areaFor countIn
     linkOf recordsOf endpointIn
     recordRight headOf storeEnd endsIn recordsRight storeEnds gatheringAt gatheringIn gatheringOctetsRight gatheringHead
-    storeGathering connectionIn store savedRight signalOf stays moves rejects rejectsFault lengthRight ourIn farIn isConfigured isOpen
+    storeGathering connectionIn store savedRight signalOf stays moves rejects rejectsFault lengthRight ourIn farIn
+        isConfigured isOpen
     isStreaming isSet may wrongState metAt meets preamble atMet named inUse discovered discover offersAt settled setAt
     configurationAt reconfigureAt openAt shiftOne shiftEach shift leaveAt securityAt delayAt obey answer
     checkCall numberOr savedNumber refusalOf packetRefusal freshCall

@@ -1,5 +1,5 @@
--- The host's calls: what each returns and what each lent area holds afterwards, refusals 1 to 12 in the stated order (document 01,
--- What the host is told).
+-- The host's calls: what each returns and what each lent area holds afterwards, refusals 1 to 12 in the stated order (document
+-- 01, What the host is told).
 use Prim.Native.Nat.{ℕ, zero, suc}
 use mathlib.Core.List.{List, []}
 use mathlib.Core.Bool.{Bool, true, false, not, _&&_}

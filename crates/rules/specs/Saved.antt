@@ -21,14 +21,14 @@ use Rattle.rules.specs.declared.Delay.the-variants.{Unreported, Reported
 --
 -- octet 0: the count, how many records there are.
 -- octets 1 to 520: the link part, which holds the gathering.
---   0 mark (0 none, 1 there) · 1 label · 2 message type · 3 signal · 4 packet count · 5 parts received · 6, 7 payload length, high
---   octet first · 8 to 519 room for the payload
+--   0 mark (0 none, 1 there) · 1 label · 2 message type · 3 signal · 4 packet count · 5 parts received · 6, 7 payload length,
+-- high   octet first · 8 to 519 room for the payload
 -- then, for each entry of the book in its order, a record of 80 octets:
 --   0 our SEID · 1 state · 2 channel · 3 far SEID (0 none) · 4 delay mark (0 unreported, 1 reported) · 5, 6 delay, high octet
 --   first · 7 configuration length (0 none) · 8 to 15 no use yet, zero · 16 to 79 room for the configuration
 --
--- What is absent in the head of a record, its first 16 octets, is zero there. These do not count: all of the gathering's octets but
--- the mark where the mark says none, octets behind a payload's or a configuration's end, and octets behind the last record.
+-- What is absent in the head of a record, its first 16 octets, is zero there. These do not count: all of the gathering's octets
+-- but the mark where the mark says none, octets behind a payload's or a configuration's end, and octets behind the last record.
 
 abbrev pub countRoom : ℕ
 countRoom = 1

@@ -6,7 +6,8 @@ use mathlib.Core.Option.{Option, none, some}
 use lib.ListN.{length, drop}
 use lib.Dec.{leb}
 use Rattle.rules.specs.Octets.{if_then_else_, between}
-use Rattle.rules.specs.Packets.{Message, Packet, single, start, further, wrong, packetIn, Gathering, isNext, extended, longest}
+use Rattle.rules.specs.Packets.{Message, Packet, single, start, further, wrong, packetIn, Gathering, isNext, extended}
+use Rattle.rules.specs.Packets.{longest}
 use Rattle.rules.specs.Host.{Cut}
 use Rattle.rules.specs.declared.Next.{Next}
 use Rattle.rules.specs.declared.Next.the-variants.{Ended, Single, Begun, Grown, Complete}

@@ -1,4 +1,5 @@
-// The saved connection's layout, each size and place once (specs/Saved.antt, docs/SAVED.md): the count, the link part, the records.
+// The saved connection's layout, each size and place once (specs/Saved.antt, docs/SAVED.md): the count, the link part, the
+// records.
 pub const COUNT: usize = 1;
 pub const LINK: usize = 520;
 pub const RECORDS: usize = COUNT + LINK;

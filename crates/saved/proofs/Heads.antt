@@ -1,5 +1,5 @@
--- A record's head, octet by octet: a list of at least eight octets is eight conses and a rest, after which all of it computes; the
--- octets without a use are written as one row behind them.
+-- A record's head, octet by octet: a list of at least eight octets is eight conses and a rest, after which all of it computes;
+-- the octets without a use are written as one row behind them.
 use Prim.Native.Nat.{ℕ, zero, suc, _≤_, _/_, _%_}
 use mathlib.Core.Path.{_≡_, refl, ap, _∙_}
 use mathlib.Core.List.{List, [], _∷_, _++_}

@@ -73,7 +73,8 @@ head-alone at s c l e =
 span : (i : ℕ) → i * 80 + 80 - i * 80 ≡ 80
 span i = omega arith
 
-pub get-by : (i : ℕ) (l : List ℕ) (h : Head) → h ≡ loaded (take (i * 80 + 80 - i * 80) (drop (i * 80) l)) → h ≡ loaded (recordAt i l)
+pub get-by : (i : ℕ) (l : List ℕ) (h : Head) → h ≡ loaded (take (i * 80 + 80 - i * 80) (drop (i * 80) l)) → h
+    ≡ loaded (recordAt i l)
 get-by i l h e = e ∙ ap (λ (k : ℕ). loaded (take k (drop (i * 80) l))) (span i)
 
 pub set-by : (i : ℕ) (l m : List ℕ) (e : Head) → m ≡ headOctets e ++ drop headRoom (take (i * 80 + 80 - i * 80) (drop (i * 80) l))
@@ -81,7 +82,8 @@ pub set-by : (i : ℕ) (l m : List ℕ) (e : Head) → m ≡ headOctets e ++ dro
 unfolding headOctets front
 set-by i l m e q =
     ap (λ (x : List ℕ). take (i * 80) l ++ (x ++ drop (i * 80 + 80 - i * 80) (drop (i * 80) l))) q
-    ∙ ap (λ (x : ℕ). take (i * 80) l ++ ((headOctets e ++ drop headRoom (take x (drop (i * 80) l))) ++ drop x (drop (i * 80) l))) (span i)
+    ∙ ap (λ (x : ℕ). take (i * 80) l ++
+        ((headOctets e ++ drop headRoom (take x (drop (i * 80) l))) ++ drop x (drop (i * 80) l))) (span i)
     ∙ lent-front (i * 80) 80 (headOctets e) l (lit≤ tt)
 
 -- ---- The head alone is written: the configuration that stands there stays, or there is none any more

@@ -1,5 +1,5 @@
--- What a command may count on: a right book, the records of a legal connection over it, room for every reply and a payload within its
--- limit. The public call establishes it, and each command's outcome keeps it.
+-- What a command may count on: a right book, the records of a legal connection over it, room for every reply and a payload
+-- within its limit. The public call establishes it, and each command's outcome keeps it.
 use Prim.Native.Nat.{ℕ, _≤_}
 use mathlib.Core.Path.{_≡_}
 use mathlib.Core.List.{List}

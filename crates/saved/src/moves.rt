@@ -7,7 +7,8 @@ use rules::FarSeid;
 use rules::State;
 
 ghost use mathlib.Core.Path.{_≡_};
-ghost use Rattle.saved.specs.Moved.{forgottenHead, inStateHead, openedHead, leavingHead, upHead, delayedHead, settledHead, reconfiguredHead};
+ghost use Rattle.saved.specs.Moved.{forgottenHead, inStateHead, openedHead, leavingHead, upHead, delayedHead};
+ghost use Rattle.saved.specs.Moved.{settledHead, reconfiguredHead};
 
 pub fn forgotten(e: Endpoint) -> Endpoint
     ensures { λ r. ⌜ r ≡ forgottenHead e ⌝ }

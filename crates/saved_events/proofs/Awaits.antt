@@ -38,8 +38,10 @@ one-more n i l inside before here j h = go (decLt j i)
           (ap isAwaited (channel-shown n i l inside) ∙ here)
 
 -- the first that awaits
-pub up-here : (n i : ℕ) (l : List ℕ) → i < n → Held n l → NoneBefore (endsIn n l) i → isAwaited (loaded (recordAt i l) .channel) ≡ true
-  → _≡_ {A = Turned} (record { number = 0; records = patch (i * recordRoom) (headOctets (upHead (loaded (recordAt i l)))) l }) (upped n l)
+pub up-here : (n i : ℕ) (l : List ℕ) → i < n → Held n l → NoneBefore (endsIn n l) i
+    → isAwaited (loaded (recordAt i l) .channel) ≡ true
+  → _≡_ {A = Turned} (record { number = 0; records = patch (i * recordRoom) (headOctets (upHead (loaded (recordAt i l)))) l })
+      (upped n l)
 unfolding upped withChannel endpointOf
 up-here n i l inside held before a =
     let ends = endsIn n l in
@@ -73,7 +75,8 @@ pub up-done : (n i : ℕ) (l l₀ m : List ℕ) (h h′ : Head) (b : Bool) → i
   → m ≡ patch (i * recordRoom) (headOctets h′) l → _≡_ {A = Turned} (record { number = 0; records = m }) (upped n l₀)
 up-done n i l l₀ m h h′ b inside held before same got asked yes! moved stored =
     let got₀ : h ≡ loaded (recordAt i l₀) = got ∙ ap (λ (x : List ℕ). loaded (recordAt i x)) same in
-    let awaits : isAwaited (loaded (recordAt i l₀) .channel) ≡ true = sym (ap (λ (x : Head). isAwaited (x .channel)) got₀) ∙ sym asked ∙ yes! in
+    let awaits : isAwaited (loaded (recordAt i l₀) .channel) ≡ true = sym (ap (λ (x : Head). isAwaited (x .channel)) got₀)
+        ∙ sym asked ∙ yes! in
     let head : h′ ≡ upHead (loaded (recordAt i l₀)) = moved ∙ ap upHead got₀ in
     ap (λ (x : List ℕ). record { number = 0; records = x })
       (stored ∙ ap₂ (λ (x : Head) (y : List ℕ). patch (i * recordRoom) (headOctets x) y) head same)

@@ -1,4 +1,5 @@
--- Link lost over the records: after i turns the first i are idle and the rest are as they were, by induction on the records before.
+-- Link lost over the records: after i turns the first i are idle and the rest are as they were, by induction on the records
+-- before.
 use Prim.Native.Nat.{ℕ, zero, suc, _+_, _*_, _≤_}
 use mathlib.Core.Path.{_≡_, refl, sym, ap, ap₂, _∙_}
 use mathlib.Core.List.{List, _++_}
@@ -38,7 +39,8 @@ pub one-idle : (i : ℕ) (l : List ℕ) → suc i * recordRoom ≤ length l
   → patch (i * recordRoom) (headOctets (forgottenHead (loaded (recordAt i (allIdle i l))))) (allIdle i l) ≡ allIdle (suc i) l
 unfolding allIdle endsIn storeEnds
 one-idle zero l h =
-    sym (lent-front 0 recordRoom (headOctets (forgottenHead (loaded (take recordRoom l)))) l (head-fits (forgottenHead (loaded (take recordRoom l)))))
+    sym (lent-front 0 recordRoom (headOctets (forgottenHead (loaded (take recordRoom l)))) l
+        (head-fits (forgottenHead (loaded (take recordRoom l)))))
     ∙ ap (λ (x : List ℕ). x ++ drop recordRoom l) (sym (idle-record (take recordRoom l)))
 one-idle (suc i) l h =
     let x = storeEnd (forgotten (endpointIn (take recordRoom l))) (take recordRoom l) in

@@ -11,7 +11,8 @@ use borrow.Author.Tests.{leb-true, le-leb, lt-leb, eqb-true, eq-eqb, ne-eqb}
 use Rattle.rules.specs.Octets.{octetsIn}
 use Rattle.rules.specs.Book.{Book, bookNumber, bookOf}
 use Rattle.rules.specs.Endpoints.{legalEnds, awaiting, legalGathering, legal}
-use Rattle.rules.specs.Saved.{recordsPlace, recordRoom, areaFor, countIn, linkOf, recordsOf, endsIn, recordsRight, gatheringIn, gatheringOctetsRight}
+use Rattle.rules.specs.Saved.{recordsPlace, recordRoom, areaFor, countIn, linkOf, recordsOf, endsIn, recordsRight, gatheringIn}
+use Rattle.rules.specs.Saved.{gatheringOctetsRight}
 use Rattle.rules.specs.Saved.{connectionIn, savedRight}
 use Rattle.rules.proofs.Tests.{and-l, and-r}
 use Rattle.rules.proofs.SavedReads.{octets-drop, gathering-room, records-room}
@@ -63,7 +64,8 @@ module _ (book : Book) (l : List ℕ) (n : ℕ) (e : n ≡ length book) where
   pub too-short : length l < recordsPlace + n * recordRoom → false ≡ savedRight book l
   unfolding areaFor
   too-short h =
-      sym (by-parts book l ∙ rw (lt-leb (areaFor (length book)) (length l) (omega arith)) (and-false (eqb (countIn l) (length book))))
+      sym (by-parts book l ∙ rw (lt-leb (areaFor (length book)) (length l) (omega arith))
+          (and-false (eqb (countIn l) (length book))))
 
   pub count-wrong : (countIn l ≡ n → ⊥) → false ≡ savedRight book l
   count-wrong f = sym (by-parts book l ∙ rw (← e, ne-eqb (countIn l) n f))

@@ -9,7 +9,8 @@ use Rattle.rules.specs.Octets.{if_then_else_}
 use Rattle.rules.specs.Elements.{items, has, couldStore}
 use Rattle.rules.specs.Book.{Entry, Book, isSource}
 use Rattle.rules.specs.Endpoints.{isReported, farRight, isAwaited, legalEnd, legalEnds, awaiting, legalGathering}
-use Rattle.rules.specs.Saved.{configRoom, channelIn, endpointIn, recordRight, endsIn, recordsRight, gatheringIn, gatheringOctetsRight}
+use Rattle.rules.specs.Saved.{configRoom, channelIn, endpointIn, recordRight, endsIn, recordsRight, gatheringIn}
+use Rattle.rules.specs.Saved.{gatheringOctetsRight}
 use Rattle.rules.specs.declared.FarSeid.{FarSeid}
 use Rattle.rules.specs.declared.Delay.{Delay}
 

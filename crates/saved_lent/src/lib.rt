@@ -1,5 +1,6 @@
 // One record's head, lent: what a channel's coming up or going down makes of it is written where the caller keeps it. A function
-// with a reference to a struct is proved by a walk of its code, so there are two, without a branch, and other callers use `turned`.
+// with a reference to a struct is proved by a walk of its code, so there are two, without a branch, and other callers use
+// `turned`.
 use saved::records::Endpoint;
 
 ghost use mathlib.Core.Path.{_≡_};

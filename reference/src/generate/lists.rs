@@ -150,10 +150,10 @@ fn spoil(rng: &mut Rng, list: &mut Elements, category: u8) {
         value.push(0);
         return;
     }
-    match rng.below(7) {
+    match rng.below(8) {
         0 => value.push(0),
         1 if value.len() > 2 => value.truncate(value.len() - 1),
-        4 if value.len() > 2 => value[2] |= 1 << rng.below(8),
+        4 | 5 if value.len() > 2 => value[2] |= 1 << rng.below(8),
         2 => value[0] ^= rng.pick(&[0x10, 0x20, 0x40, 0x80]),
         3 => value[1] ^= 1 << rng.below(8),
         _ => {

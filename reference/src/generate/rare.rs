@@ -4,15 +4,14 @@ use std::collections::BTreeMap;
 
 use super::payloads::{command, Command};
 use crate::book::OurSeid;
+use crate::codes::UNSUPPORTED_CONFIGURATION;
 use crate::commands::{serve, Answer, RECONFIGURE, SET_CONFIGURATION, START, SUSPEND};
+use crate::elements::{CODEC, PROTECTION};
 use crate::endpoints::{Channel, Record, State};
 use crate::rng::Rng;
 use crate::session::Held;
 
 const CANDIDATES: usize = 8;
-
-/// How many times as often as others an answer may come that is an accept.
-const ACCEPTS: u64 = 4;
 
 /// A signal, whom the command names first, and the answer in short.
 type Reached = (u8, Named, Short);
@@ -33,6 +32,17 @@ enum Short {
     Silent,
 }
 
+impl Short {
+    /// How many times as often as others this answer may come. Accepts lead on to the late states; that an element is not
+    /// offered has many reasons.
+    fn may_come(&self) -> u64 {
+        match self {
+            Short::Accept | Short::Reject(PROTECTION | CODEC, UNSUPPORTED_CONFIGURATION) => 4,
+            _ => 1,
+        }
+    }
+}
+
 #[derive(Default)]
 pub struct Seen(BTreeMap<Reached, u64>);
 
@@ -43,8 +53,7 @@ impl Seen {
             let command = command(rng, held);
             let reached = reached(held, &command);
             let times = self.0.get(&reached).copied().unwrap_or(0);
-            // Accepted commands lead on to the late states.
-            let weight = if reached.2 == Short::Accept { times / ACCEPTS } else { times };
+            let weight = times / reached.2.may_come();
             if best.as_ref().is_none_or(|(least, _, _)| weight < *least) {
                 best = Some((weight, reached, command));
             }

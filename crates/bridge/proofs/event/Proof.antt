@@ -94,7 +94,8 @@ lost-requires c κs =
 
 slice-write-saved : tie.Need-slice-write-saved
 slice-write-saved c =
-    let q = quiet (c .before .before .before .before .before .before .before) in omega (arith, q .long, c .before .saved3 .given .1)
+    let q = quiet (c .before .before .before .before .before .before .before) in omega
+        (arith, q .long, c .before .saved3 .given .1)
 
 -- ---- What each comes to
 

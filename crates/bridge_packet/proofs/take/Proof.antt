@@ -10,7 +10,8 @@ use Rattle.packets_gather.proofs.Steps.{room-told}
 use Rattle.packets_gather.proofs.Done.{none-done}
 use Rattle.rules.proofs.SavedReads.{octets-known}
 use Rattle.bridge_packet.proofs.Halves.{behind-whole}
-use Rattle.bridge_packet.proofs.Taking.{room-right, nothing-done, single-header, single-serves, single-done, joined-serves, joined-done}
+use Rattle.bridge_packet.proofs.Taking.{room-right, nothing-done, single-header, single-serves, single-done}
+use Rattle.bridge_packet.proofs.Taking.{joined-serves, joined-done}
 use borrow.Author.Needs.{needs}
 use Rattle.bridge_packet.proofs.take.Statement.{statement}
 use Rattle.bridge_packet.proofs.take.Tie as tie
@@ -35,7 +36,8 @@ gathered-requires : tie.Need-gathered-requires
 gathered-requires c κs =
     let saved = c .before .before .before in
     let args = entry saved .args in
-    room-right (args .book .now) (args .size) (args .saved .now) (args .packet .now) (args .reply .now) (entry saved .pre) (known saved)
+    room-right (args .book .now) (args .size) (args .saved .now) (args .packet .now) (args .reply .now) (entry saved .pre)
+        (known saved)
 
 enum-known-then : tie.Need-enum-known-then
 enum-known-then c = search needs
@@ -46,7 +48,8 @@ sub-serve c =
     let called = single-by then in
     let saved = known-by called in
     let args = entry saved .args in
-    single-header (args .book .now) (args .size) (args .saved .now) (args .packet .now) (args .reply .now) (entry saved .pre) (known saved) _ _ _
+    single-header (args .book .now) (args .size) (args .saved .now) (args .packet .now) (args .reply .now) (entry saved .pre)
+        (known saved) _ _ _
       (next called (Single _ _ _) (then .then .given .1))
 
 part-serve-start : tie.Need-part-serve-start
@@ -55,7 +58,8 @@ part-serve-start c =
     let called = single-by then in
     let saved = known-by called in
     let args = entry saved .args in
-    single-header (args .book .now) (args .size) (args .saved .now) (args .packet .now) (args .reply .now) (entry saved .pre) (known saved) _ _ _
+    single-header (args .book .now) (args .size) (args .saved .now) (args .packet .now) (args .reply .now) (entry saved .pre)
+        (known saved) _ _ _
       (next called (Single _ _ _) (then .then .given .1))
 
 part-serve-end : tie.Need-part-serve-end
@@ -67,7 +71,8 @@ serve-requires c κs =
     let called = single-by then in
     let saved = known-by called in
     let args = entry saved .args in
-    single-serves (args .book .now) (args .size) (args .saved .now) (args .packet .now) (args .reply .now) (entry saved .pre) (known saved) _ _ _ _
+    single-serves (args .book .now) (args .size) (args .saved .now) (args .packet .now) (args .reply .now) (entry saved .pre)
+        (known saved) _ _ _ _
       (called .gathered .ensures .1) _ (behind-whole 2 (args .packet .now)) (next called (Single _ _ _) (then .then .given .1))
 
 enum-known-then-2 : tie.Need-enum-known-then-2
@@ -79,7 +84,8 @@ serve-joined-requires c κs =
     let called = then .before .before .before .before in
     let saved = known-by called in
     let args = entry saved .args in
-    joined-serves (args .book .now) (args .size) (args .saved .now) (args .packet .now) (args .reply .now) (entry saved .pre) (known saved) _ _ _ _
+    joined-serves (args .book .now) (args .size) (args .saved .now) (args .packet .now) (args .reply .now) (entry saved .pre)
+        (known saved) _ _ _ _
       (called .gathered .ensures .1) (next called (Complete _ _ _) (then .then2 .given .1))
 
 nothing-requires : tie.Need-nothing-requires
@@ -98,7 +104,8 @@ returns c =
     let called = single-by then in
     let saved = known-by called in
     let args = entry saved .args in
-    single-done (args .book .now) (args .size) (args .saved .now) (args .packet .now) (args .reply .now) (entry saved .pre) (known saved) _ _ _ _
+    single-done (args .book .now) (args .size) (args .saved .now) (args .packet .now) (args .reply .now) (entry saved .pre)
+        (known saved) _ _ _ _
       (called .gathered .ensures .1) _ (behind-whole 2 (args .packet .now)) (next called (Single _ _ _) (then .then .given .1)) _
       (answered .serve .ensures)
 
@@ -115,7 +122,8 @@ returns-2 c =
     let called = then .before .before .before .before in
     let saved = known-by called in
     let args = entry saved .args in
-    joined-done (args .book .now) (args .size) (args .saved .now) (args .packet .now) (args .reply .now) (entry saved .pre) (known saved) _ _ _ _
+    joined-done (args .book .now) (args .size) (args .saved .now) (args .packet .now) (args .reply .now) (entry saved .pre)
+        (known saved) _ _ _ _
       (called .gathered .ensures .1) _ (next called (Complete _ _ _) (then .then2 .given .1)) (answered .serve-joined .ensures)
 
 same-length-5 : tie.Need-same-length-5
@@ -127,7 +135,8 @@ returns-3 c =
     let saved = known-by called in
     let args = entry saved .args in
     let room = linkOf (args .saved .now) in
-    nothing-done (args .book .now) (args .size) (args .saved .now) (args .packet .now) (args .reply .now) (entry saved .pre) (known saved) _ _
+    nothing-done (args .book .now) (args .size) (args .saved .now) (args .packet .now) (args .reply .now) (entry saved .pre)
+        (known saved) _ _
       (called .gathered .ensures .1) (c .nothing .ensures)
       (none-done (args .size) room (args .packet .now) (called .gathered .result) (c .before .match .keys3)
         (room-told (args .size) room (args .packet .now) _ (next called _ refl)))

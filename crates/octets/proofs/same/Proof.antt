@@ -33,11 +33,13 @@ at-place a b i p q = rw (drop-cons a i 0 p, drop-cons b i 0 q, add-one)
 
 differs : (a b : List ℕ) (i : ℕ) → i < length a → i < length b → sameOctets a b ≡ sameOctets (drop i a) (drop i b)
   → (getD a i 0 ≡ getD b i 0 → ⊥) → false ≡ sameOctets a b
-differs a b i p q e h = sym (e ∙ at-place a b i p q ∙ ap (λ (t : Bool). t && sameOctets (drop (i + 1) a) (drop (i + 1) b)) (ne-eqb _ _ h))
+differs a b i p q e h = sym
+    (e ∙ at-place a b i p q ∙ ap (λ (t : Bool). t && sameOctets (drop (i + 1) a) (drop (i + 1) b)) (ne-eqb _ _ h))
 
 agrees : (a b : List ℕ) (i : ℕ) → i < length a → i < length b → sameOctets a b ≡ sameOctets (drop i a) (drop i b)
   → getD a i 0 ≡ getD b i 0 → sameOctets a b ≡ sameOctets (drop (i + 1) a) (drop (i + 1) b)
-agrees a b i p q e h = e ∙ at-place a b i p q ∙ ap (λ (t : Bool). t && sameOctets (drop (i + 1) a) (drop (i + 1) b)) (eq-eqb _ _ h)
+agrees a b i p q e h = e ∙ at-place a b i p q
+    ∙ ap (λ (t : Bool). t && sameOctets (drop (i + 1) a) (drop (i + 1) b)) (eq-eqb _ _ h)
 
 all-compared : (a b : List ℕ) (i : ℕ) → length a ≡ length b → i ≡ length a → sameOctets (drop i a) (drop i b) ≡ true
 unfolding sameOctets

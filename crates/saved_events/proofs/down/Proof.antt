@@ -19,7 +19,8 @@ get-requires c κs =
     let told = c .before .before in
     let placed = told .before .before in
     let start = placed .before .before .before in
-    down-room (start .args .seid) (start .args .book .now) (start .args .records .now) (told .place2 .given .0 .0) _ _ _ (start .pre .0)
+    down-room (start .args .seid) (start .args .book .now) (start .args .records .now) (told .place2 .given .0 .0) _ _ _
+        (start .pre .0)
       (start .pre .1) (sym (placed .place .ensures) ∙ told .place2 .given .1)
 
 is-up-requires : tie.Need-is-up-requires
@@ -33,7 +34,8 @@ set-requires c κs =
     let told = c .before .before .before .before .before .before .before in
     let placed = told .before .before in
     let start = placed .before .before .before in
-    down-room (start .args .seid) (start .args .book .now) (start .args .records .now) (told .place2 .given .0 .0) _ _ _ (start .pre .0)
+    down-room (start .args .seid) (start .args .book .now) (start .args .records .now) (told .place2 .given .0 .0) _ _ _
+        (start .pre .0)
       (start .pre .1) (sym (placed .place .ensures) ∙ told .place2 .given .1)
 
 same-length : tie.Need-same-length
@@ -49,7 +51,8 @@ returns c =
     let told = got .before .before .before in
     let placed = told .before .before in
     let start = placed .before .before .before in
-    down-done (start .args .seid) (start .args .book .now) (start .args .records .now) (told .place2 .given .0 .0) _ _ _ (start .pre .0)
+    down-done (start .args .seid) (start .args .book .now) (start .args .records .now) (told .place2 .given .0 .0) _ _ _
+        (start .pre .0)
       (start .pre .1) (sym (placed .place .ensures) ∙ told .place2 .given .1) (was-set .set .last .0) (got .get .result)
       (moved .turned .result) (asked .is-up .result) (got .get .ensures) (asked .is-up .ensures) (tested .if1 .taken)
       (moved .turned .ensures) (was-set .set .ensures)
@@ -71,7 +74,8 @@ returns-3 c =
     let told = got .before .before .before in
     let placed = told .before .before in
     let start = placed .before .before .before in
-    down-none (start .args .seid) (start .args .book .now) (start .args .records .now) (told .place2 .given .0 .0) _ _ _ (start .pre .0)
+    down-none (start .args .seid) (start .args .book .now) (start .args .records .now) (told .place2 .given .0 .0) _ _ _
+        (start .pre .0)
       (start .pre .1) (sym (placed .place .ensures) ∙ told .place2 .given .1) (got .get .result) (asked .is-up .result)
       (got .get .ensures) (asked .is-up .ensures) (c .if1 .left)
 

@@ -23,7 +23,8 @@ get-requires : tie.Need-get-requires Inv-loop μ-loop
 get-requires c κs =
     let at-loop = c .before .before in
     let start = at-loop .before .before in
-    has-room (start .args .count) (at-loop .loop .i) (start .args .records .now) (at-loop .loop .records) (c .before .loop-test .taken)
+    has-room (start .args .count) (at-loop .loop .i) (start .args .records .now) (at-loop .loop .records)
+        (c .before .loop-test .taken)
       (start .pre) (at-loop .loop .inv .0)
 
 is-awaited-requires : tie.Need-is-awaited-requires Inv-loop μ-loop
@@ -37,7 +38,8 @@ set-requires c κs =
     let in-loop = c .before .before .before .before .before .before in
     let at-loop = in-loop .before in
     let start = at-loop .before .before in
-    has-room (start .args .count) (at-loop .loop .i) (start .args .records .now) (at-loop .loop .records) (in-loop .loop-test .taken)
+    has-room (start .args .count) (at-loop .loop .i) (start .args .records .now) (at-loop .loop .records)
+        (in-loop .loop-test .taken)
       (start .pre) (at-loop .loop .inv .0)
 
 same-length : tie.Need-same-length Inv-loop μ-loop
@@ -77,7 +79,8 @@ loop-again c =
     ( at-loop .loop .inv .0,
       omega arith,
       up-goes-on (start .args .count) (at-loop .loop .i) (at-loop .loop .records) (start .args .records .now) (got .get .result)
-        (asked .is-awaited .result) (in-loop .loop-test .taken) (at-loop .loop .inv .2) (at-loop .loop .inv .0) (got .get .ensures)
+        (asked .is-awaited .result) (in-loop .loop-test .taken) (at-loop .loop .inv .2) (at-loop .loop .inv .0)
+            (got .get .ensures)
         (asked .is-awaited .ensures) (c .if1 .left))
 
 same-length-2 : tie.Need-same-length-2 Inv-loop μ-loop

@@ -105,13 +105,15 @@ pub +offers-spec : {M : Type 1} → statement M
       let place = c .before .before in
       let looked = place .before .before in
       let args = looked .before .before .before .args in
-      omega (arith, stands-whole (args .caps .now) (args .at) _ _ _ (sym (place .element .given .1) ∙ looked .element-at .ensures) .3))
+      omega (arith, stands-whole (args .caps .now) (args .at) _ _ _
+          (sym (place .element .given .1) ∙ looked .element-at .ensures) .3))
     -- the measure falls
     (λ c κs.
       let place = c .before .before in
       let looked = place .before .before in
       let args = looked .before .before .before .args in
-      let there = stands-whole (args .caps .now) (args .at) _ _ _ (sym (place .element .given .1) ∙ looked .element-at .ensures) in
+      let there = stands-whole (args .caps .now) (args .at) _ _ _
+          (sym (place .element .given .1) ∙ looked .element-at .ensures) in
       (omega arith, tt))
     -- nothing more
     (λ c.

@@ -104,7 +104,8 @@ pub +walk-spec : {M : Type 1} → statement M
       let place = c .before .before .before .before in
       let looked = place .before .before in
       let args = looked .before .before .before .args in
-      omega (arith, stands-whole (args .list .now) (args .at) _ _ _ (sym (place .element2 .given .1) ∙ looked .element-at .ensures) .3))
+      omega (arith, stands-whole (args .list .now) (args .at) _ _ _
+          (sym (place .element2 .given .1) ∙ looked .element-at .ensures) .3))
     -- the place of the value fits
     (λ c.
       let place = c .before .before .before .before in
