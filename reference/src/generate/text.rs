@@ -174,11 +174,11 @@ fn joined_by(rng: &mut Rng, words: &[String]) -> Vec<u8> {
     words.join(rng.pick(&["  ", "\t", " \t", ",", "\r"])).into_bytes()
 }
 
-/// Lines at the limits of what `record`, `gathering` and `down` take, on either side.
+/// Lines at the limits of what `record`, `gathering`, `count` and `packet` take, on either side.
 fn edge_of_format(rng: &mut Rng, seid: u8) -> String {
     let octets = |count: usize| apart(&vec![0xA5; count]);
     let digits = |count: usize| "5A".repeat(count);
-    match rng.below(9) {
+    match rng.below(10) {
         0 => format!("record {seid} idle none 0 - {}", digits(65)),
         1 => format!("record {seid} idle none 0 - {}", digits(64)),
         2 => format!("record {seid} idle none 0 - {}", rng.pick(&["5", "5A5", "5G"])),
@@ -189,6 +189,7 @@ fn edge_of_format(rng: &mut Rng, seid: u8) -> String {
         7 => {
             rng.pick(&["gathering 0 0 1 256 1", "gathering 256 0 1 2 1", "gathering 0 0 1 2 256"]).to_string()
         }
+        8 => format!("count {}", rng.pick(&[255, 256])),
         _ => format!("packet{}", octets(LONGEST_LINE / 3)),
     }
 }
