@@ -3,8 +3,9 @@ ghost use mathlib.Core.Path.{_≡_};
 ghost use Rattle.replay_script.specs.Names.{stepOf, stateOf, channelOf};
 use crate::tables::value;
 
-// The steps. Under a step's name stand its letter, by which `replay` finds its function; `+` where it needs a book, `-` where not;
-// then letters of `reading`: one for what stands at its end, and one for each word before that. A name may have several words.
+// The steps. Under a step's name stand its letter, by which `replay` finds its function; `+` where it needs a book, `-` where
+// not; then letters of `reading`: one for what stands at its end, and one for each word before that. A name may have several
+// words.
 pub const STEPS: [u8; 193] = *b"book:b-*\n\
     rebook:r+*\n\
     size:s-.n\n\
