@@ -1,5 +1,5 @@
-// A step goes to its function by its letter, in one of three places: `settle` has those that say what holds from here on, `change`
-// those that change what is saved, and `ask` of `replay_questions` those that only ask.
+// A step goes to its function by its letter, in one of three places: `settle` has those that say what holds from here on,
+// `change` those that change what is saved, and `ask` of `replay_questions` those that only ask.
 use replay_answers::kept::Kept;
 use replay_answers::octs::front;
 use replay_answers::octs::lay;
@@ -66,7 +66,7 @@ pub fn complain(explains: bool, k: usize, why: u8) {
     }
 }
 
-// Line k, with the octets at its end: exactly one of the three has its step.
+// Line k, with the octets at its end: one of the three has its step, and none where it was not understood.
 fn serve(k: usize, line: Line, octets: &[u8], kept: Kept, book: &mut [u8], saved: &mut [u8]) -> Kept {
     let numbers = line.numbers;
     ask(line.step, numbers, octets, kept, front(book, kept.book), saved);
