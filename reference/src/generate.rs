@@ -240,6 +240,12 @@ impl Generator {
             let packet = if refused { self.row.front().cloned() } else { self.row.pop_front() };
             return Step::Packet(packet.unwrap_or_default());
         }
+        if size_fits && area_fits && legal && self.steps >= self.next_longest_row {
+            self.next_longest_row += 9000;
+            let packets = parts::longest_row(&mut self.rng, self.session.size.into());
+            self.goes_first(packets);
+            return Step::Packet(self.row.pop_front().unwrap_or_default());
+        }
         self.free_step()
     }
 
@@ -393,20 +399,14 @@ impl Generator {
         };
         let command = self.seen.rarest(rng, held);
         let message = payloads::message(rng, command, size);
-        let packets = if self.steps >= self.next_longest_row {
-            self.next_longest_row += 9000;
-            parts::longest_row(rng, size, &message)
-        } else {
-            let mut packets = parts::packets(rng, size, &message);
-            if rng.chance(if packets.len() == 1 { 40 } else { 350 }) {
-                let (signal, payload) = payloads::command(rng, held);
-                let label = rng.octet() & 0x0F;
-                let other = Message { label, message_type: 0, signal, payload };
-                let other = parts::single(rng, &other);
-                parts::disturb(rng, size, &mut packets, other);
-            }
-            packets
-        };
+        let mut packets = parts::packets(rng, size, &message);
+        if rng.chance(if packets.len() == 1 { 40 } else { 350 }) {
+            let (signal, payload) = payloads::command(rng, held);
+            let label = rng.octet() & 0x0F;
+            let other = Message { label, message_type: 0, signal, payload };
+            let other = parts::single(rng, &other);
+            parts::disturb(rng, size, &mut packets, other);
+        }
         self.goes_first(packets);
         Step::Packet(self.row.pop_front().unwrap_or_default())
     }

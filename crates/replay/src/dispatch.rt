@@ -1,11 +1,12 @@
-// A step goes to its function by its letter, in one of three places: steps that say what holds from here on, steps that change
-// what is saved, and steps that only ask.
+// A step goes to its function by its letter, in one of three places: `settle` has those that say what holds from here on,
+// `change` those that change what is saved, and `ask` of `replay_questions` those that only ask.
 use replay_answers::kept::Kept;
 use replay_answers::octs::front;
 use replay_answers::octs::lay;
 use replay_answers::octs::octet;
 use replay_answers::says;
 use replay_answers::says::answer;
+use replay_questions::ask;
 use replay_script::reading::FINE;
 use replay_script::reading::Line;
 use replay_script::reading::read;
@@ -14,7 +15,6 @@ use replay_steps::books;
 use replay_steps::events;
 use replay_steps::options;
 use replay_steps::overwrites;
-use replay_steps::questions;
 use replay_words::notes;
 use rules::Event;
 use rules::OurSeid;
@@ -56,19 +56,6 @@ fn change(
     }
 }
 
-// What only asks.
-fn ask<'a>(step: u8, numbers: [usize; 6], octets: &[u8], kept: Kept, book: &'a [u8], saved: &'a [u8]) {
-    let seid = octet(numbers[0]);
-    match step {
-        b'q' => questions::settings(kept, book, saved, seid),
-        b't' => questions::delay(kept, book, saved, seid),
-        b'j' => questions::status(kept, book, saved, seid),
-        b'e' => questions::states(kept, saved),
-        b'c' => questions::cut(kept, numbers, octets),
-        _ => {}
-    }
-}
-
 // Says that line k was not understood, where `why` says so.
 pub fn complain(explains: bool, k: usize, why: u8) {
     if why == FINE {
@@ -80,7 +67,7 @@ pub fn complain(explains: bool, k: usize, why: u8) {
     }
 }
 
-// Line k, with the octets at its end: exactly one of the three has its step.
+// Line k, with the octets at its end: one of the three has its step, and none where it was not understood.
 fn serve(k: usize, line: Line, octets: &[u8], kept: Kept, book: &mut [u8], saved: &mut [u8]) -> Kept {
     let numbers = line.numbers;
     ask(line.step, numbers, octets, kept, front(book, kept.book), saved);

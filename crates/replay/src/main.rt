@@ -3,11 +3,11 @@
 mod dispatch;
 use crate::dispatch::complain;
 use crate::dispatch::run;
+use replay_answers::kept::Kept;
+use replay_answers::octs::front;
 use replay_input::Reader;
 use replay_input::fewer;
 use replay_input::next;
-use replay_answers::kept::Kept;
-use replay_answers::octs::front;
 use replay_script::lines;
 use replay_script::reading::LONG;
 

@@ -62,7 +62,7 @@ fn lay_octet(text: &mut [u8], at: usize, parted: bool, octet: u8) -> usize {
     at + 2
 }
 
-// Octets, with a blank before each or none.
+// Octets, with a blank before each or none. A packet has at most 672, and 1,366 have room.
 pub fn say_octets(parted: bool, octets: &[u8]) {
     let mut text = [0u8; 4099];
     let mut end = 0;

@@ -1,4 +1,9 @@
-// A step as it is read: its name, then its words, then what stands at its end, as the table of steps has them.
+// A step as it is read: its name, then its words, then what stands at its end, as the table of steps has them. A word is
+//   o  a number up to 255        n  a number up to 65,535        d  such a number or a dash
+//   s  the name of a state       c  the name of a channel
+// and what stands at the end is
+//   .  nothing                   *  octets, parted by blanks     p  the same, at most 512
+//   k  a dash, or 1 to 64 octets that are not parted
 use crate::hexes;
 use crate::lines::next;
 use crate::lines::rest;
@@ -138,7 +143,7 @@ fn parted(text: &[u8], most: usize, data: &mut [u8]) -> usize {
     count
 }
 
-// What stands at a step's end, by its kind, read into `data`: nothing, octets, a payload or a configuration.
+// What stands at a step's end, by its kind, read into `data`: how many octets, NONE where it is not of this kind.
 fn ending(kind: u8, text: &[u8], data: &mut [u8]) -> usize {
     match kind {
         b'*' => parted(text, 4096, data),

@@ -1,6 +1,6 @@
 //! Random packets: messages cut at any places, and what goes wrong on the way. Document 01, "Packets and messages".
 
-use crate::commands::DISCOVER;
+use crate::commands::{DISCOVER, SECURITY_CONTROL};
 use crate::packets::{Gathering, Message, COMMAND, CONTINUE, END, LONGEST_PAYLOAD, SINGLE, START};
 use crate::rng::Rng;
 
@@ -19,12 +19,14 @@ pub fn packets(rng: &mut Rng, size: usize, message: &Message) -> Vec<Vec<u8>> {
     in_parts(rng, message, &parts)
 }
 
-/// A command of as many packets as can be announced; all but one of them bring nothing.
-pub fn longest_row(rng: &mut Rng, size: usize, message: &Message) -> Vec<Vec<u8>> {
-    let mut command = Message { message_type: COMMAND, ..message.clone() };
-    command.payload.truncate(size - 3);
+/// A command of as many packets as can be announced, of which all but one bring nothing. It is one that is answered.
+pub fn longest_row(rng: &mut Rng, size: usize) -> Vec<Vec<u8>> {
+    let signal = rng.pick(&[DISCOVER, SECURITY_CONTROL, 0x0E]);
+    let length = rng.below(size - 2);
+    let payload = rng.octets(length);
     let mut parts = vec![Vec::new(); 255];
-    parts[rng.below(255)] = command.payload.clone();
+    parts[rng.below(255)] = payload.clone();
+    let command = Message { label: rng.octet() & 0x0F, message_type: COMMAND, signal, payload };
     in_parts(rng, &command, &parts)
 }
 

@@ -1,5 +1,4 @@
--- `digit` meets its contract: its tests are those of the definition, and the last that failed says that those before it failed
--- too.
+-- `digit` meets its contract: its tests are those of the definition, and where the last one failed those before it did too.
 use Prim.Native.Nat.{ℕ, _-_, _≤_, _<_}
 use mathlib.Core.Path.{_≡_}
 use native.Mathlib.Omega.{arith}
@@ -37,8 +36,8 @@ module _ (x : ℕ) where
   last : 97 ≤ x → digitOf x ≡ (if ltb x 103 then x - 87 else 16)
   unfolding digitOf
   last g =
-      rw (le-ltb x 48 (omega arith), le-ltb x 58 (omega arith), le-ltb x 65 (omega arith), le-ltb x 71 (omega arith), le-ltb x
-          97 g)
+      rw (le-ltb x 48 (omega arith), le-ltb x 58 (omega arith), le-ltb x 65 (omega arith), le-ltb x 71 (omega arith),
+        le-ltb x 97 g)
 
   a-letter : 97 ≤ x → x < 103 → x - 87 ≡ digitOf x
   a-letter g h = rw (last g, lt-ltb x 103 h)

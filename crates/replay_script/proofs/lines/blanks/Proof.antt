@@ -49,52 +49,17 @@ Inv-loop s i₀ i = (i ≤ length s) × (blanksOf s ≡ i + blanksOf (drop i s))
 abbrev μ-loop : tie.MeasureT-loop
 μ-loop s i₀ i = length s - i
 
-loop-holds : tie.Need-loop-holds Inv-loop μ-loop
-loop-holds c = (omega arith, begun (c .before .args .s .now))
-
-shared-slice-read-blank : tie.Need-shared-slice-read-blank Inv-loop μ-loop
-shared-slice-read-blank c = omega arith
-
-blank-requires : tie.Need-blank-requires Inv-loop μ-loop
-blank-requires c κs = search needs
-
-add-i : tie.Need-add-i Inv-loop μ-loop
-add-i c = omega arith
-
-loop-less : tie.Need-loop-less Inv-loop μ-loop
-loop-less c = omega arith
-
-loop-again : tie.Need-loop-again Inv-loop μ-loop
-loop-again c =
-    let at-loop = c .before .before .before .before in
-    let s = at-loop .before .before .args .s .now in
-    ( omega arith,
-      further s (at-loop .loop .i) (c .before .blank .result) (omega arith) (at-loop .loop .inv .1) (c .before .blank .ensures)
-        (c .if1 .taken))
-
-returns : tie.Need-returns Inv-loop μ-loop
-returns c =
-    let at-loop = c .before .before .before .before in
-    let s = at-loop .before .before .args .s .now in
-    here s (at-loop .loop .i) (c .before .blank .result) (omega arith) (at-loop .loop .inv .1) (c .before .blank .ensures)
-      (c .if1 .left)
-
-returns-2 : tie.Need-returns-2 Inv-loop μ-loop
-returns-2 c =
-    let at-loop = c .before in
-    all-blank (at-loop .before .before .args .s .now) (at-loop .loop .i) (omega arith) (at-loop .loop .inv .1)
-
 pub blanks-spec : {M : Type 1} → statement M
 blanks-spec =
     tie.close
-    (tie.spec
-    Inv-loop
-    μ-loop
-    loop-holds
-    shared-slice-read-blank
-    blank-requires
-    add-i
-    loop-less
-    loop-again
-    returns
-    returns-2)
+    (tie.spec Inv-loop μ-loop
+      (λ c. (omega arith, begun (c .before .args .s .now)))
+      (λ c. omega arith) (λ c κs. search needs) (λ c. omega arith) (λ c. omega arith)
+      (λ c. let at = c .before .before .before .before in
+        ( omega arith,
+          further (at .before .before .args .s .now) (at .loop .i) (c .before .blank .result) (omega arith) (at .loop .inv .1)
+            (c .before .blank .ensures) (c .if1 .taken)))
+      (λ c. let at = c .before .before .before .before in
+        here (at .before .before .args .s .now) (at .loop .i) (c .before .blank .result) (omega arith) (at .loop .inv .1)
+          (c .before .blank .ensures) (c .if1 .left))
+      (λ c. all-blank (c .before .before .before .args .s .now) (c .before .loop .i) (omega arith) (c .before .loop .inv .1)))
