@@ -6,7 +6,7 @@ use mathlib.Core.Path.{_≡_, refl, sym, ap, ap₂, _∙_}
 use mathlib.Core.List.{List, [], _∷_}
 use mathlib.Core.Bool.{Bool, true, false, not, _&&_}
 use lib.ListN.{length, take, drop, getD, length-take, length-drop}
-use lib.Seq.{drop-drop}
+use lib.Seq.{drop-drop, drop-cons}
 use lib.Dec.{leb, eqb, lit≤}
 use borrow.Author.Tests.{leb-true, eq-eqb, ne-eqb}
 use Rattle.rules.specs.Octets.{if_then_else_, sameOctets, isEmpty}
@@ -19,7 +19,7 @@ use Rattle.octets.specs.Patch.{part}
 use Rattle.book.proofs.Found.{entryBy, entries-first, book-length}
 use Rattle.saved.specs.Records.{loaded}
 use Rattle.saved.specs.declared.records.Endpoint.{Endpoint as Head}
-use Rattle.saved_legal.specs.Legal.{settingsRight, usedRight, awaitsIn, recordLegal, recordsLegal}
+use Rattle.saved_legal.specs.Legal.{settingsRight, usedRight, fourZero, awaitsIn, recordLegal, recordsLegal}
 
 -- ---- One record
 
@@ -28,9 +28,55 @@ pub used-wrong : (r : List ℕ) → usedRight r ≡ false → false ≡ recordRi
 unfolding recordRight usedRight
 used-wrong r e = rw e
 
-pub unused-decide : (r p : List ℕ) → p ≡ part 8 8 r → usedRight r ≡ true → sameOctets p unused ≡ recordRight r
-unfolding recordRight usedRight part
-unused-decide r p q e = rw (e, q)
+-- the octets without a use, four by four
+and-eight : (a b c d e f g h : Bool)
+  → a && (b && (c && (d && (e && (f && (g && (h && true))))))) ≡ (a && (b && (c && d))) && (e && (f && (g && h)))
+and-eight false b c d e f g h = refl
+and-eight true false c d e f g h = refl
+and-eight true true false d e f g h = refl
+and-eight true true true false e f g h = refl
+and-eight true true true true false f g h = refl
+and-eight true true true true true false g h = refl
+and-eight true true true true true true false h = refl
+and-eight true true true true true true true true = refl
+and-eight true true true true true true true false = refl
+
+eight-behind : (r : List ℕ) → length r ≡ recordRoom
+  → take 8 (drop 8 r)
+    ≡ getD r 8 0 ∷ getD r 9 0 ∷ getD r 10 0 ∷ getD r 11 0 ∷ getD r 12 0 ∷ getD r 13 0 ∷ getD r 14 0 ∷ getD r 15 0 ∷ []
+eight-behind r long =
+    ap (take 8)
+      (drop-cons r 8 0 (omega arith) ∙ ap (_∷_ (getD r 8 0))
+        (drop-cons r 9 0 (omega arith) ∙ ap (_∷_ (getD r 9 0))
+          (drop-cons r 10 0 (omega arith) ∙ ap (_∷_ (getD r 10 0))
+            (drop-cons r 11 0 (omega arith) ∙ ap (_∷_ (getD r 11 0))
+              (drop-cons r 12 0 (omega arith) ∙ ap (_∷_ (getD r 12 0))
+                (drop-cons r 13 0 (omega arith) ∙ ap (_∷_ (getD r 13 0))
+                  (drop-cons r 14 0 (omega arith) ∙ ap (_∷_ (getD r 14 0)) (drop-cons r 15 0 (omega arith)))))))))
+
+unused-fours : (r : List ℕ) → length r ≡ recordRoom
+  → sameOctets (take 8 (drop 8 r)) unused
+    ≡ fourZero (getD r 8 0) (getD r 9 0) (getD r 10 0) (getD r 11 0)
+      && fourZero (getD r 12 0) (getD r 13 0) (getD r 14 0) (getD r 15 0)
+unfolding sameOctets
+unused-fours r long =
+    ap (λ (l : List ℕ). sameOctets l unused) (eight-behind r long)
+    ∙ and-eight (eqb (getD r 8 0) 0) (eqb (getD r 9 0) 0) (eqb (getD r 10 0) 0) (eqb (getD r 11 0) 0) (eqb (getD r 12 0) 0)
+        (eqb (getD r 13 0) 0) (eqb (getD r 14 0) 0) (eqb (getD r 15 0) 0)
+
+module _ (r : List ℕ) (long : length r ≡ recordRoom) (used : usedRight r ≡ true) where
+  by-fours : recordRight r
+    ≡ fourZero (getD r 8 0) (getD r 9 0) (getD r 10 0) (getD r 11 0)
+      && fourZero (getD r 12 0) (getD r 13 0) (getD r 14 0) (getD r 15 0)
+  unfolding recordRight usedRight
+  by-fours = (rw used) ∙ unused-fours r long
+
+  pub first-four-wrong : fourZero (getD r 8 0) (getD r 9 0) (getD r 10 0) (getD r 11 0) ≡ false → false ≡ recordRight r
+  first-four-wrong e = sym (by-fours ∙ rw e)
+
+  pub last-four-decide : fourZero (getD r 8 0) (getD r 9 0) (getD r 10 0) (getD r 11 0) ≡ true
+    → fourZero (getD r 12 0) (getD r 13 0) (getD r 14 0) (getD r 15 0) ≡ recordRight r
+  last-four-decide e = sym (by-fours ∙ rw e)
 
 -- a part is no longer than was asked for
 pub part-short : (from size : ℕ) (l : List ℕ) → size ≤ 64 → length (part from size l) ≤ 64

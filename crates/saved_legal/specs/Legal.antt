@@ -30,6 +30,10 @@ usedRight r =
     && (eqb (getD r 4 0) 1 || (eqb (getD r 4 0) 0 && eqb (getD r 5 0) 0 && eqb (getD r 6 0) 0))
     && leb (getD r 7 0) configRoom
 
+-- four of those that have none
+abbrev pub fourZero : ℕ → ℕ → ℕ → ℕ → Bool
+fourZero a b c d = eqb a 0 && (eqb b 0 && (eqb c 0 && eqb d 0))
+
 unfoldable pub recordLegal : Entry → List ℕ → Bool
 recordLegal n r = recordRight r && legalEnd n (endpointIn r)
 

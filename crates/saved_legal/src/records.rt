@@ -28,7 +28,7 @@ ghost use lib.Dec.{eqb};
 ghost use Rattle.rules.specs.Book.{bookNumber, bookOf};
 ghost use Rattle.rules.specs.Endpoints.{channelRight};
 ghost use Rattle.rules.specs.Saved.{recordRoom, recordRight};
-ghost use Rattle.saved_legal.specs.Legal.{usedRight, awaitsIn, recordLegal, recordsLegal};
+ghost use Rattle.saved_legal.specs.Legal.{usedRight, fourZero, awaitsIn, recordLegal, recordsLegal};
 
 fn channel_right(state: State, channel: Channel) -> bool
     ensures { λ r. ⌜ r ≡ channelRight state channel ⌝ }
@@ -76,6 +76,21 @@ fn used_right(slot: &[u8]) -> bool
     slot[CONFIG_LENGTH] as usize <= CONFIG
 }
 
+fn four_zero(a: u8, b: u8, c: u8, d: u8) -> bool
+    ensures { λ r. ⌜ r ≡ fourZero a b c d ⌝ }
+{
+    if a != 0 {
+        return false;
+    }
+    if b != 0 {
+        return false;
+    }
+    if c != 0 {
+        return false;
+    }
+    d == 0
+}
+
 // Whether a stored record could have these octets.
 fn octets_right(slot: &[u8]) -> bool
     requires { ⌜ length (now slot) ≡ recordRoom ⌝ }
@@ -84,8 +99,10 @@ fn octets_right(slot: &[u8]) -> bool
     if !used_right(slot) {
         return false;
     }
-    let unused = [0u8; HEAD - UNUSED];
-    octets::same(octets::part(slot, UNUSED, HEAD - UNUSED), &unused)
+    if !four_zero(slot[UNUSED], slot[UNUSED + 1], slot[UNUSED + 2], slot[UNUSED + 3]) {
+        return false;
+    }
+    four_zero(slot[UNUSED + 4], slot[UNUSED + 5], slot[UNUSED + 6], slot[UNUSED + 7])
 }
 
 // How many channels a record awaits whose octet for the channel this is.
