@@ -43,7 +43,8 @@ returns-2 c =
     let tested = c .before in
     let used = tested .before .before .before .before .before in
     let start = used .before .before .before in
-    first-four-wrong (start .args .slot .now) (start .pre) (sym (used .before .used-right .ensures) ∙ not-false _ (used .if1 .left))
+    first-four-wrong (start .args .slot .now) (start .pre)
+      (sym (used .before .used-right .ensures) ∙ not-false _ (used .if1 .left))
       (sym (tested .four-zero .ensures) ∙ not-true _ (c .if2 .taken))
 
 add-four-zero-4 : tie.Need-add-four-zero-4
