@@ -8,24 +8,20 @@ use lib.ListN.{length}
 use borrow.Author.Tests.{ne-eqb}
 use Rattle.rules.specs.Octets.{if_then_else_, isEmpty}
 use Rattle.rules.specs.Book.{bookOf}
-use Rattle.rules.specs.Endpoints.{Endpoint, endAt}
-use Rattle.rules.specs.Saved.{recordRoom, configRoom, recordsOf, endsIn, connectionIn}
+use Rattle.rules.specs.Endpoints.{Endpoint, idleHead, endAt}
+use Rattle.rules.specs.Saved.{recordRoom, configRoom, recordsOf, headIn, endsIn, connectionIn}
 use Rattle.rules.specs.Host.{refusalOf, settingsOf, Shown, shownAt, settingsCall, heard, heardAt, delayCall}
 use Rattle.rules.specs.Host.{standing, nowhere, standingAt, statusCall}
-use Rattle.rules.specs.Answers.{heardBy}
 use Rattle.rules.specs.declared.OurSeid.{OurSeid}
-use Rattle.rules.specs.declared.Delay.the-variants.{Unreported}
-use Rattle.rules.specs.declared.Heard.{Heard as HeardBy}
-use Rattle.rules.specs.declared.Standing.{Standing}
+use Rattle.rules.specs.declared.Head.{Head}
 use Rattle.octets.specs.Patch.{part}
 use Rattle.book.specs.Places.{knownAt, placeIn, foundBy}
 use Rattle.book.specs.declared.places.Located.the-variants.{Unknown}
 use Rattle.book.proofs.Found.{entryBy, found-as, Placed, placed}
-use Rattle.saved.specs.Records.{loaded, endpointOf, recordAt, configSizeAt, configAt}
-use Rattle.saved.specs.declared.records.Endpoint.{Endpoint as Head}
+use Rattle.saved.specs.Records.{recordAt, configSizeAt, configAt}
 use Rattle.saved.proofs.OneStore.{loaded-one, length-told}
 use Rattle.saved_events.proofs.Awaits.{has-room}
-use Rattle.bridge.specs.Calls.{Hears, standingOf}
+use Rattle.bridge.specs.Calls.{Finds}
 use Rattle.bridge.proofs.Refusing.{Calm}
 
 module _ (book saved : List ℕ) (s : OurSeid) where
@@ -36,13 +32,10 @@ module _ (book saved : List ℕ) (s : OurSeid) where
     unfolding settingsCall
     refused-shown = rw (← e, ne-eqb n 0 h)
 
-    pub refused-stands : (r : Standing) → r ≡ nowhere n → r ≡ statusCall book saved s
-    unfolding statusCall
-    refused-stands r said = said ∙ rw (← e, ne-eqb n 0 h)
-
-    pub refused-heard : (r : HeardBy) → heardBy r ≡ heard n Unreported → Hears book saved s r
-    unfolding delayCall
-    refused-heard r said = said ∙ rw (← e, ne-eqb n 0 h)
+    pub refused-found : (head : Head) → head ≡ idleHead s → Finds book saved s (record { number = n; head = head })
+    unfolding delayCall statusCall nowhere standing
+    refused-found head idle =
+        record { delay = rw (← e, ne-eqb n 0 h, idle); status = rw (← e, ne-eqb n 0 h, idle) }
 
   -- ---- Not refused
 
@@ -51,13 +44,14 @@ module _ (book saved : List ℕ) (s : OurSeid) where
     unfolding settingsCall shownAt foundBy
     missing-shown e = rw (calm .allowed, found-as s book Unknown e)
 
-    pub missing-stands : (r : Standing) → placeIn s book ≡ Unknown → r ≡ nowhere 10 → r ≡ statusCall book saved s
-    unfolding statusCall standingAt foundBy
-    missing-stands r e said = said ∙ rw (calm .allowed, found-as s book Unknown e)
-
-    pub missing-heard : (r : HeardBy) → placeIn s book ≡ Unknown → heardBy r ≡ heard 10 Unreported → Hears book saved s r
-    unfolding delayCall heardAt foundBy
-    missing-heard r e said = said ∙ rw (calm .allowed, found-as s book Unknown e)
+    pub missing-found : (head : Head) → placeIn s book ≡ Unknown → head ≡ idleHead s
+      → Finds book saved s (record { number = 10; head = head })
+    unfolding delayCall heardAt statusCall standingAt nowhere standing foundBy
+    missing-found head e idle =
+        record {
+          delay = rw (calm .allowed, found-as s book Unknown e, idle);
+          status = rw (calm .allowed, found-as s book Unknown e, idle)
+        }
 
     pub there-shown : (i kind from size : ℕ) → placeIn s book ≡ knownAt i kind from size
       → settingsCall book saved s
@@ -70,12 +64,12 @@ module _ (book saved : List ℕ) (s : OurSeid) where
     there-shown i kind from size e = rw (calm .allowed, found-as s book (knownAt i kind from size) e)
 
     there-heard : (i kind from size : ℕ) → placeIn s book ≡ knownAt i kind from size
-      → delayCall book saved s ≡ heard 0 (endAt (endsIn (length (bookOf book)) (recordsOf saved)) i .delay)
+      → delayCall book saved s ≡ heard 0 (endAt (endsIn (length (bookOf book)) (recordsOf saved)) i .head .delay)
     unfolding delayCall heardAt foundBy connectionIn
     there-heard i kind from size e = rw (calm .allowed, found-as s book (knownAt i kind from size) e)
 
     there-stands : (i kind from size : ℕ) → placeIn s book ≡ knownAt i kind from size
-      → statusCall book saved s ≡ standing 0 (endAt (endsIn (length (bookOf book)) (recordsOf saved)) i)
+      → statusCall book saved s ≡ standing 0 (endAt (endsIn (length (bookOf book)) (recordsOf saved)) i .head)
     unfolding statusCall standingAt foundBy connectionIn
     there-stands i kind from size e = rw (calm .allowed, found-as s book (knownAt i kind from size) e)
 
@@ -87,10 +81,10 @@ module _ (book saved : List ℕ) (s : OurSeid) where
       place = placed s book i kind from size (calm .numbered) there
 
       shows : endAt (endsIn (length (bookOf book)) (recordsOf saved)) i
-        ≡ endpointOf (loaded (recordAt i records)) (configAt i records)
+        ≡ record { head = headIn (recordAt i records); config = configAt i records }
       shows =
           loaded-one (length (bookOf book)) i (recordsOf saved) (place .counted)
-          ∙ ap (λ (l : List ℕ). endpointOf (loaded (recordAt i l)) (configAt i l)) (sym lent)
+          ∙ ap (λ (l : List ℕ). record { head = headIn (recordAt i l); config = configAt i l }) (sym lent)
 
       pub record-there : (i + 1) * recordRoom ≤ length records
       record-there =
@@ -105,23 +99,18 @@ module _ (book saved : List ℕ) (s : OurSeid) where
       pub offer-inside : from + size ≤ length book
       offer-inside = place .inside
 
-      pub known-heard : (h : Head) (r : HeardBy) → h ≡ loaded (recordAt i records) → heardBy r ≡ heard 0 (h .delay)
-        → Hears book saved s r
-      unfolding endpointOf
-      known-heard h r got said =
-          said
-          ∙ ap (λ (x : Head). heard 0 (x .delay)) got
-          ∙ sym (there-heard i kind from size there ∙ ap (λ (e : Endpoint). heard 0 (e .delay)) shows)
-
-      pub known-stands : (h : Head) (r : Standing) → h ≡ loaded (recordAt i records) → r ≡ standingOf h
-        → r ≡ statusCall book saved s
-      unfolding standing endpointOf
-      known-stands h r got said =
-          said ∙ ap standingOf got ∙ sym (there-stands i kind from size there ∙ ap (standing 0) shows)
+      pub known-found : (head : Head) → head ≡ headIn (recordAt i records)
+        → Finds book saved s (record { number = 0; head = head })
+      known-found head got =
+          let same = got ∙ sym (ap (λ (e : Endpoint). e .head) shows) in
+          record {
+            delay = ap (λ (x : Head). heard 0 (x .delay)) same ∙ sym (there-heard i kind from size there);
+            status = ap (standing 0) same ∙ sym (there-stands i kind from size there)
+          }
 
       shown-part : settingsCall book saved s .part
         ≡ if isEmpty (configAt i records) then part from size book else configAt i records
-      unfolding settingsOf endpointOf part
+      unfolding settingsOf part
       shown-part =
           ap (λ (x : Shown). x .part) (there-shown i kind from size there)
           ∙ ap (settingsOf (entryBy s book kind from size)) shows

@@ -1,6 +1,6 @@
 -- The records written behind the other parts of an area, and then the gathering's mark, and the count, set there: each is one
 -- octet of what stands before the records.
-use Prim.Native.Nat.{ℕ, suc, _-_, _≤_}
+use Prim.Native.Nat.{ℕ, _-_, _≤_}
 use native.Mathlib.Omega.{arith}
 use mathlib.Core.Path.{_≡_, refl, ap, _∙_}
 use mathlib.Core.List.{List, [], _∷_, _++_}

@@ -148,7 +148,7 @@ module _ (book saved : List ℕ) where
         turned : _≡_ {A = Turned} (record { number = number; records = m }) (downed s (bookOf book) behind)
         turned = t ∙ rw (behind-whole recordsPlace saved)
 
-        by-channel : (i : ℕ) (n : Entry) → find s (bookOf book) ≡ known i n → Told? (isUp (endAt ends i .channel))
+        by-channel : (i : ℕ) (n : Entry) → find s (bookOf book) ≡ known i n → Told? (isUp (endAt ends i .head .channel))
           → Happens book saved event number (putMid recordsPlace (length saved - recordsPlace) saved m)
         by-channel i n e (passed p) =
             moved event number m (set ends i (forgotten (endAt ends i))) (this ∙ rw (e, p)) (turned ∙ rw (e, p))
@@ -157,7 +157,7 @@ module _ (book saved : List ℕ) where
         go : (f : Found) → find s (bookOf book) ≡ f
             → Happens book saved event number (putMid recordsPlace (length saved - recordsPlace) saved m)
         go unknown e = not-moved event number m (this ∙ rw e) (turned ∙ rw e)
-        go (known i n) e = by-channel i n e (told (isUp (endAt ends i .channel)))
+        go (known i n) e = by-channel i n e (told (isUp (endAt ends i .head .channel)))
 
     -- Link lost
     pub lost-happens : (event : Event) (n : ℕ) (m : List ℕ) → event ≡ Lost → n ≡ length (bookOf book) → m ≡ allIdle n lent

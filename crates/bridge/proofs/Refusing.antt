@@ -5,9 +5,8 @@ use native.Mathlib.Omega.{arith}
 use mathlib.Core.Path.{_≡_, refl, sym, ap, _∙_}
 use mathlib.Core.List.{List}
 use mathlib.Core.Bool.{Bool, true, false, not}
-use lib.Dec.{ltb}
 use lib.ListN.{length, getD}
-use borrow.Author.Tests.{lt-ltb, le-ltb, ltb-false, eq-eqb, ne-eqb}
+use borrow.Author.Tests.{lt-ltb, le-ltb, eq-eqb, ne-eqb}
 use Rattle.rules.specs.Octets.{if_then_else_, octetsIn}
 use Rattle.rules.specs.Book.{bookNumber, bookOf}
 use Rattle.rules.specs.Packets.{sizeRight}
@@ -15,6 +14,7 @@ use Rattle.rules.specs.Saved.{recordsPlace, areaFor, savedRight}
 use Rattle.rules.specs.Host.{numberOr, savedNumber, refusalOf, packetRefusal, Told, nothingSaid, Answered, packetCall}
 use Rattle.rules.proofs.SavedReads.{octets-known}
 use Rattle.rules.proofs.SavedStaysRight.{right-long}
+use Rattle.rules.proofs.Unrefused.{none-refused, packet-unrefused, packet-room}
 use Rattle.saved_legal.proofs.RightSaved.{Right, right-saved}
 use Rattle.bridge_packet.specs.Taken.{Takes, taken}
 
@@ -52,20 +52,6 @@ module _ (book saved : List ℕ) where
 
 -- ---- Nothing refused
 
-none-saved : (b : Bool) → _≡_ {A = ℕ} (if b then 0 else 12) 0 → b ≡ true
-none-saved true e = refl
-none-saved false e = absurd (omega arith)
-
-none-first : (n : ℕ) (b : Bool) → numberOr n (if b then 0 else 12) ≡ 0 → (n ≡ 0) × (b ≡ true)
-unfolding numberOr
-none-first zero b e = (refl, none-saved b e)
-none-first (suc n) b e = absurd (omega arith)
-
-pub none-refused : (book saved : List ℕ) → refusalOf book saved ≡ 0
-  → (bookNumber book ≡ 0) × (savedRight (bookOf book) saved ≡ true)
-unfolding refusalOf savedNumber
-none-refused book saved e = none-first (bookNumber book) (savedRight (bookOf book) saved) e
-
 -- what a call may count on then
 pub record Calm (book saved : List ℕ) : Type 0 where
   pub allowed : refusalOf book saved ≡ 0
@@ -80,36 +66,28 @@ pub calm : (book saved : List ℕ) (n : ℕ) → ((i : ℕ) → getD saved i 0 <
 unfolding areaFor
 calm book saved n known e zeroed =
     let allowed = sym e ∙ zeroed in
-    let both = none-refused book saved allowed in
+    let unrefused = none-refused book saved allowed in
     let octets = octets-known saved known in
     record {
       allowed = allowed;
-      numbered = both .0;
+      numbered = unrefused .book;
       octets = octets;
-      lawful = both .1;
-      long = omega (arith, right-long (bookOf book) saved (both .1));
-      inside = right-saved book saved octets (both .1)
+      lawful = unrefused .right;
+      long = omega (arith, right-long (bookOf book) saved (unrefused .right));
+      inside = right-saved book saved octets (unrefused .right)
     }
 
 -- ---- A packet that is not refused
 
-none-packet : (a b c : Bool) → _≡_ {A = ℕ} (if a then 8 else if b then 9 else if c then 0 else 12) 0 → (b ≡ false) × (c ≡ true)
-none-packet true b c e = absurd (omega arith)
-none-packet false true c e = absurd (omega arith)
-none-packet false false c e = (refl, none-saved c e)
-
-first-none : (n next : ℕ) → numberOr n next ≡ 0 → (n ≡ 0) × (next ≡ 0)
-unfolding numberOr
-first-none zero next e = (refl, e)
-first-none (suc n) next e = absurd (omega arith)
-
 module _ (book : List ℕ) (size : ℕ) (saved p reply : List ℕ) (n : ℕ) (e : n ≡ packetRefusal book size saved reply) where
   pub may-take : n ≡ 0 → Takes book saved reply
-  unfolding packetRefusal savedNumber
   may-take zeroed =
-      let tests = first-none (bookNumber book) _ (sym e ∙ zeroed) in
-      let passed = none-packet (not (sizeRight size)) (ltb (length reply) 64) (savedRight (bookOf book) saved) (tests .1) in
-      record { right = tests .0; legal = passed .1; room = ltb-false (length reply) 64 (passed .0) }
+      let unrefused = packet-unrefused book size saved reply (sym e ∙ zeroed) in
+      record {
+        right = unrefused .book;
+        legal = unrefused .right;
+        room = packet-room book size saved reply (sym e ∙ zeroed)
+      }
 
   pub packet-refused : (told : Told) → (n ≡ 0 → ⊥) → told ≡ nothingSaid n
     → _≡_ {A = Answered} (record { told = told; saved = saved; reply = reply }) (packetCall book size saved p reply)

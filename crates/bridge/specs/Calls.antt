@@ -3,7 +3,8 @@
 use Prim.Native.Nat.{ℕ}
 use mathlib.Core.Path.{_≡_}
 use mathlib.Core.List.{List}
-use Rattle.rules.specs.Host.{Kept, freshCall, Answered, packetCall, eventCall, delayCall, cutCall}
+use Rattle.rules.specs.Host.{Kept, freshCall, Answered, packetCall, eventCall, heard, delayCall, standing, statusCall}
+use Rattle.rules.specs.Host.{cutCall}
 use Rattle.rules.specs.Wires.{cutBy}
 use Rattle.rules.specs.Answers.{toldBy, heardBy}
 use Rattle.rules.specs.declared.OurSeid.{OurSeid}
@@ -11,8 +12,7 @@ use Rattle.rules.specs.declared.Event.{Event}
 use Rattle.rules.specs.declared.Told.{Told as ToldBy}
 use Rattle.rules.specs.declared.Heard.{Heard as HeardBy}
 use Rattle.rules.specs.declared.Piece.{Piece}
-use Rattle.rules.specs.declared.Standing.{Standing}
-use Rattle.saved.specs.declared.records.Endpoint.{Endpoint as Head}
+use Rattle.bridge.specs.declared.questions.Numbered.{Numbered}
 
 abbrev pub Freshens : List ℕ → List ℕ → ℕ → List ℕ → Type 0
 Freshens book saved number saved′ = _≡_ {A = Kept} (record { number = number; saved = saved′ }) (freshCall book saved)
@@ -32,6 +32,7 @@ Cuts size label kind signal payload index area piece area′ =
     cutBy piece area′
     ≡ cutCall size (record { label = label; type = kind; signal = signal; payload = payload }) index area
 
--- how an endpoint stands, by the head of its record
-abbrev pub standingOf : Head → Standing
-standingOf h = record { number = 0; state = h .state; channel = h .channel; far = h .far }
+-- The two questions that the head of an endpoint's record answers.
+pub record Finds (book saved : List ℕ) (s : OurSeid) (found : Numbered) : Type 0 where
+  pub delay : heard (found .number) (found .head .delay) ≡ delayCall book saved s
+  pub status : standing (found .number) (found .head) ≡ statusCall book saved s

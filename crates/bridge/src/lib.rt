@@ -2,11 +2,11 @@
 // refusal leaves every octet of every lent area. The numbers are document 01's: 1 to 7 the book, 8 the packet size, 9 an area too
 // short, 10 an event or a question that does not apply, 11 a message that is not to be cut, 12 the saved connection, 0 done.
 mod refusals;
+mod questions;
 mod delays;
 mod standings;
 
 use book::places::Located;
-use rules::Delay;
 use rules::Event;
 use rules::Heard;
 use rules::OurSeid;
@@ -120,39 +120,19 @@ pub fn settings_told(book: &[u8], saved: &[u8], seid: OurSeid) -> u8
 pub fn delay(book: &[u8], saved: &[u8], seid: OurSeid) -> Heard
     ensures { λ r. ⌜ Hears (now (book .entry)) (now (saved .entry)) seid r ⌝ }
 {
-    let number = refusals::refusal(book, saved);
-    if number != 0 {
-        return delays::heard(number, Delay::Unreported);
-    }
-    let located = book::places::locate(book, seid);
-    match located {
-        Located::Unknown => delays::heard(10, Delay::Unreported),
-        Located::Known(place) => {
-            let index = place.index;
-            let e = saved::records::get(records_of(saved), index);
-            let delay = e.delay;
-            delays::heard(0, delay)
-        }
-    }
+    let found = questions::ask(book, saved, seid);
+    let head = found.head;
+    let delay = head.delay;
+    delays::heard(found.number, delay)
 }
 
 // How an endpoint stands: its state, its channel and the far SEID.
 pub fn status(book: &[u8], saved: &[u8], seid: OurSeid) -> Standing
     ensures { λ r. ⌜ r ≡ statusCall (now (book .entry)) (now (saved .entry)) seid ⌝ }
 {
-    let number = refusals::refusal(book, saved);
-    if number != 0 {
-        return standings::nowhere(number);
-    }
-    let located = book::places::locate(book, seid);
-    match located {
-        Located::Unknown => standings::nowhere(10),
-        Located::Known(place) => {
-            let index = place.index;
-            let e = saved::records::get(records_of(saved), index);
-            standings::standing(e)
-        }
-    }
+    let found = questions::ask(book, saved, seid);
+    let head = found.head;
+    standings::standing(found.number, head)
 }
 
 // How many packets a payload of this length takes, 0 where the size or the length is refused.

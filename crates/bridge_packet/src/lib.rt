@@ -7,9 +7,8 @@ use rules::layout::RECORDS;
 use saved::parts::link_of;
 
 ghost use mathlib.Core.Path.{_≡_};
-ghost use mathlib.Core.List.{_++_};
 ghost use Prim.Native.Nat.{_≤_};
-ghost use lib.ListN.{length, take, drop};
+ghost use lib.ListN.{length, take};
 ghost use Rattle.rules.specs.Saved.{recordsPlace, linkOf, recordsOf, gatheringIn};
 ghost use Rattle.rules.specs.Host.{nothingSaid, Answered};
 ghost use Rattle.rules.specs.Wires.{nextOf};

@@ -153,7 +153,8 @@ hosts-legal book saved asks said last ok right runs =
 -- What it has made idle has no configuration, no far SEID, no delay and no channel.
 pub hosts-idle : (book saved : List ℕ) (asks : List Asked) (said : List Sessions.Answer) (last : List ℕ) → bookNumber book ≡ 0
   → savedRight (bookOf book) saved ≡ true → Runs book saved asks said last → (i : ℕ)
-  → let e = endAt (connectionIn (length (bookOf book)) last .ends) i in e .state ≡ Idle → e ≡ idle (e .seid)
+  → let e = endAt (connectionIn (length (bookOf book)) last .ends) i in
+    e .head .state ≡ Idle → e ≡ idle (e .head .seid)
 hosts-idle book saved asks said last ok right runs i =
     rw (defined book saved asks said last runs .left) (idle-after book saved ok right (map callOf asks) i)
 
@@ -179,7 +180,7 @@ pub hosts-unmoved : (book saved : List ℕ) (asks : List Asked) (said : List Ses
   → savedRight (bookOf book) saved ≡ true → Runs book saved asks said last
   → (size : ℕ) (p reply room : List ℕ) (t : ToldBy) (next reply′ room′ : List ℕ)
   → Steps book last (Call.Packet size) p reply room (Answer.Told t) next reply′ room′
-  → shiftsIn (gather size (connectionIn (length (bookOf book)) last .gathering) p .done) ≡ false → (t .kind ≡ 2 → ⊥)
+  → shiftsIn (gather size (connectionIn (length (bookOf book)) last .link .gathering) p .done) ≡ false → (t .kind ≡ 2 → ⊥)
   → connectionIn (length (bookOf book)) next .ends ≡ connectionIn (length (bookOf book)) last .ends
 hosts-unmoved book saved asks said last ok right runs size p reply room t next reply′ room′ step other refused =
     let legal = hosts-legal book saved asks said last ok right runs .right in
@@ -193,7 +194,7 @@ pub hosts-stopped : (book saved : List ℕ) (asks : List Asked) (said : List Ses
   → savedRight (bookOf book) saved ≡ true → Runs book saved asks said last
   → (size : ℕ) (p reply room : List ℕ) (t : ToldBy) (next reply′ room′ : List ℕ)
   → Steps book last (Call.Packet size) p reply room (Answer.Told t) next reply′ room′
-  → (m : Message) → gather size (connectionIn (length (bookOf book)) last .gathering) p .done ≡ some m → shifts m ≡ true
+  → (m : Message) → gather size (connectionIn (length (bookOf book)) last .link .gathering) p .done ≡ some m → shifts m ≡ true
   → isEmpty (m .payload) ≡ false → t .kind ≡ 3
   → StoppedSeen (bookOf book) (connectionIn (length (bookOf book)) last .ends) reply m
       (record { told = toldBy t; saved = next; reply = reply′ })

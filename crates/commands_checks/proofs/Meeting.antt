@@ -10,10 +10,11 @@ use borrow.Author.Tests.{eqb-true, leb-true}
 use Rattle.rules.specs.Octets.{if_then_else_}
 use Rattle.rules.specs.Book.{Entry, bookNumber, bookOf}
 use Rattle.rules.specs.Endpoints.{Ends, endAt, legalEnd}
-use Rattle.rules.specs.Saved.{recordRoom, configRoom, endsIn}
+use Rattle.rules.specs.Saved.{recordRoom, configRoom, headIn, endsIn}
 use Rattle.rules.specs.Commands.{Outcome, stays, rejects, lengthRight, ourIn, may, wrongState, metAt, preamble, atMet, named}
 use Rattle.rules.specs.Commands.{Met as MetBy, refused, here, meets as meetsBy}
 use Rattle.rules.specs.declared.OurSeid.{OurSeid}
+use Rattle.rules.specs.declared.Head.{Head}
 use Rattle.rules.specs.declared.Signal.{Signal}
 use Rattle.rules.specs.declared.Signal.the-variants.{Discover, GetCapabilities, SetConfiguration, GetConfiguration, Reconfigure}
 use Rattle.rules.specs.declared.Signal.the-variants.{OpenUp, Start, Close, Suspend, Abort, SecurityControl, GetAllCapabilities}
@@ -26,9 +27,8 @@ use Rattle.book.specs.declared.places.Place.{Place}
 use Rattle.book.specs.declared.places.Located.{Located}
 use Rattle.book.specs.declared.places.Located.the-variants.{Unknown, Known}
 use Rattle.book.proofs.Found.{entryBy, found-as, Placed, placed as placed-in}
-use Rattle.saved.specs.Records.{loaded, endpointOf, recordAt, configSizeAt, configAt}
+use Rattle.saved.specs.Records.{recordAt, configSizeAt, configAt}
 use Rattle.saved.specs.Held.{Held}
-use Rattle.saved.specs.declared.records.Endpoint.{Endpoint as Head}
 use Rattle.saved.proofs.OneStore.{loaded-one, record-inside, length-told}
 use Rattle.commands_reply.specs.Obeys.{endsOf}
 use Rattle.commands_checks.specs.Met.{namesOne, metBy, metOf, metIn}
@@ -68,19 +68,19 @@ module _ (signal : Signal) (book records : List ℕ) (s : OurSeid) where
     pub met-inside : (at .index + 1) * recordRoom ≤ length records
     met-inside = record-inside (length (bookOf book)) (at .index) records inside held
 
-    module _ {h : Head} (got : h ≡ loaded (recordAt (at .index) records)) {b : Bool}
+    module _ {h : Head} (got : h ≡ headIn (recordAt (at .index) records)) {b : Bool}
         (test : b ≡ may signal (h .state) (h .channel)) where
-      shown : endAt (endsOf book records) (at .index) ≡ endpointOf h (configAt (at .index) records)
+      shown : endAt (endsOf book records) (at .index) ≡ record { head = h; config = configAt (at .index) records }
       shown =
           loaded-one (length (bookOf book)) (at .index) records inside
-          ∙ ap (λ (x : Head). endpointOf x (configAt (at .index) records)) (sym got)
+          ∙ ap (λ (x : Head). record { head = x; config = configAt (at .index) records }) (sym got)
 
       pub met-here : b ≡ true → Here at ≡ metOf signal book records s
-      unfolding metOf metBy endpointOf
+      unfolding metOf metBy
       met-here t = rw (k, shown, ← test, t)
 
       pub met-wrong : b ≡ false → {code : ℕ} → code ≡ wrongState signal (h .state) → Refused code ≡ metOf signal book records s
-      unfolding metOf metBy endpointOf
+      unfolding metOf metBy
       met-wrong f c = rw (k, shown, ← test, f, ← c)
 
 module _ (signal : Signal) (book records p : List ℕ) {b : Bool} (test : b ≡ lengthRight signal (length p)) where
@@ -110,8 +110,8 @@ by-place : (signal : Signal) (ends : Ends) (s : OurSeid) (b : List ℕ) (place :
 unfolding metAt foundBy metBy metAs
 by-place signal ends s b Unknown = refl
 by-place signal ends s b (Known at) =
-    by-may s b (may signal (endAt ends (at .index) .state) (endAt ends (at .index) .channel)) at
-      (wrongState signal (endAt ends (at .index) .state))
+    by-may s b (may signal (endAt ends (at .index) .head .state) (endAt ends (at .index) .head .channel)) at
+      (wrongState signal (endAt ends (at .index) .head .state))
 
 pub meets-as : (signal : Signal) (book records : List ℕ) (s : OurSeid)
   → meetsBy signal (bookOf book) (endsOf book records) s ≡ metAs s book (metOf signal book records s)
@@ -166,16 +166,16 @@ pub record Stands (signal : Signal) (book records p : List ℕ) (at : Place) : T
   pub inside : (at .index + 1) * recordRoom ≤ length records
   pub told : configSizeAt (at .index) records ≤ configRoom
   pub shows : endAt (endsOf book records) (at .index)
-    ≡ endpointOf (loaded (recordAt (at .index) records)) (configAt (at .index) records)
+    ≡ record { head = headIn (recordAt (at .index) records); config = configAt (at .index) records }
   pub lawful : legalEnd (entryIn book p at) (endAt (endsOf book records) (at .index)) ≡ true
-  pub takes : let e = endAt (endsOf book records) (at .index) in may signal (e .state) (e .channel) ≡ true
+  pub takes : let h = endAt (endsOf book records) (at .index) .head in may signal (h .state) (h .channel) ≡ true
 
 record Seen (signal : Signal) (ends : Ends) (place : Located) (at : Place) : Type 0 where
   there : place ≡ Known at
-  takes : may signal (endAt ends (at .index) .state) (endAt ends (at .index) .channel) ≡ true
+  takes : may signal (endAt ends (at .index) .head .state) (endAt ends (at .index) .head .channel) ≡ true
 
 seen-may : (signal : Signal) (ends : Ends) (known at : Place)
-  → Told? (may signal (endAt ends (known .index) .state) (endAt ends (known .index) .channel))
+  → Told? (may signal (endAt ends (known .index) .head .state) (endAt ends (known .index) .head .channel))
   → metBy signal ends (Known known) ≡ Here at → Seen signal ends (Known known) at
 unfolding metBy
 seen-may signal ends known at (passed t) e =
@@ -183,7 +183,7 @@ seen-may signal ends known at (passed t) e =
     let same : known ≡ at = cc in
     subst (λ (x : Place). Seen signal ends (Known known) x) same (record { there = refl; takes = t })
 seen-may signal ends known at (failed f) e =
-    let e′ : Refused (wrongState signal (endAt ends (known .index) .state)) ≡ Here at = rw f at e in
+    let e′ : Refused (wrongState signal (endAt ends (known .index) .head .state)) ≡ Here at = rw f at e in
     let z : _≡_ {A = ℕ} 0 1 = cc in
     absurd (omega arith)
 
@@ -192,7 +192,7 @@ seen-place : (signal : Signal) (ends : Ends) (place : Located) (at : Place) → 
 unfolding metBy
 seen-place signal ends Unknown at e = let z : _≡_ {A = ℕ} 0 1 = cc in absurd (omega arith)
 seen-place signal ends (Known known) at e =
-    seen-may signal ends known at (told (may signal (endAt ends (known .index) .state) (endAt ends (known .index) .channel))) e
+    seen-may signal ends known at (told (may signal (endAt ends (known .index) .head .state) (endAt ends (known .index) .head .channel))) e
 
 -- where a SEID that passed stands
 pub met-placed : (signal : Signal) (book records : List ℕ) (s : OurSeid) (at : Place) → bookNumber book ≡ 0
@@ -229,7 +229,6 @@ stands {signal} {book} {records} {p} {reply} {at} call =
 -- Its configuration is no longer than a reply may be.
 pub config-short : {signal : Signal} {book records p : List ℕ} {at : Place} → Stands signal book records p at
   → length (configAt (at .index) records) ≤ 64
-unfolding endpointOf
 config-short {book = book} {records = records} {p = p} {at = at} it =
     rw (it .shows) at
       (end-short (entryIn book p at) (endAt (endsOf book records) (at .index)) (it .placed .right) (it .lawful))

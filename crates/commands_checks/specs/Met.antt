@@ -39,8 +39,8 @@ namesOne Unassigned = false
 unfoldable pub metBy : Signal → Ends → Located → Met
 metBy signal ends Unknown = Refused 0x12
 metBy signal ends (Known at) =
-    let e = endAt ends (at .index) in
-    if may signal (e .state) (e .channel) then Here at else Refused (wrongState signal (e .state))
+    let h = endAt ends (at .index) .head in
+    if may signal (h .state) (h .channel) then Here at else Refused (wrongState signal (h .state))
 
 -- known and state
 unfoldable pub metOf : Signal → List ℕ → List ℕ → OurSeid → Met

@@ -11,11 +11,12 @@ use borrow.Author.Tests.{leb-true}
 use Rattle.rules.specs.Octets.{front}
 use Rattle.rules.specs.Elements.{items, faultIn, restored, couldStore}
 use Rattle.rules.specs.Endpoints.{Endpoint, isIdle, withConfig, endAt}
-use Rattle.rules.specs.Saved.{recordRoom, configRoom}
+use Rattle.rules.specs.Saved.{recordRoom, configRoom, headIn}
 use Rattle.rules.specs.Commands.{accept, reject, moves, rejects, rejectsFault, lengthRight, may, reconfigureAt, obey}
 use Rattle.rules.specs.Host.{payloadOf}
 use Rattle.rules.specs.Answers.{saidOf}
 use Rattle.rules.specs.declared.Said.{Said}
+use Rattle.rules.specs.declared.Head.{Head}
 use Rattle.rules.specs.declared.Fault.{Fault}
 use Rattle.rules.specs.declared.Rule.the-variants.{Setting, Reconfiguring}
 use Rattle.rules.specs.declared.Signal.the-variants.{Reconfigure}
@@ -32,10 +33,7 @@ use Rattle.elements.proofs.Judging.{check-clean}
 use Rattle.elements_stored.specs.Stores.{markedStore, MarksFit}
 use Rattle.elements_stored.proofs.Stores.{Stores, could-checked, again-stores}
 use Rattle.book.specs.declared.places.Place.{Place}
-use Rattle.saved.specs.Records.{loaded, endpointOf, recordAt, configSizeAt, configAt}
-use Rattle.saved.specs.Moved.{reconfiguredHead}
-use Rattle.saved.specs.declared.records.Endpoint.{Endpoint as Head}
-use Rattle.saved.proofs.Configs.{config-length}
+use Rattle.saved.specs.Records.{recordAt, configSizeAt, configAt}
 use Rattle.commands_reply.specs.Obeys.{endsOf, Obeys}
 use Rattle.commands_checks.specs.Named.{Named}
 use Rattle.commands_checks.proofs.Meeting.{entryIn, stands}
@@ -56,16 +54,6 @@ module _ {caps records payload : List ℕ} {i : ℕ} {h : Head} {m : Marks} (r :
   pub renew-reads : ((i + 1) * recordRoom ≤ length records) × (configSizeAt i records ≤ configRoom)
   renew-reads = (r .inside, r .told)
 
-  size-told : h .length ≡ length (configAt i records)
-  unfolding loaded
-  size-told =
-      ap (λ (x : Head). x .length) (r .head)
-      ∙ sym (config-length i records (r .inside) (r .told))
-
-  -- the length fits the copy
-  pub size-short : h .length ≤ 64
-  size-short = omega (arith, size-told, config-short)
-
   fine : faultIn Reconfiguring (items caps) (items (drop 1 payload)) .code ≡ 0
   fine = check-clean Reconfiguring (items caps) payload 1 m (sym (r .clean)) .0
 
@@ -81,10 +69,9 @@ module _ {caps records payload : List ℕ} {i : ℕ} {h : Head} {m : Marks} (r :
     copy-fits = omega (arith, ap length q, config-short)
 
     pub copied : (zeros : List ℕ) {copy : List ℕ} → length zeros ≡ 64 → copy ≡ patch 0 p zeros
-      → take (h .length) copy ≡ configAt i records
+      → take (length p) copy ≡ configAt i records
     unfolding part
-    copied zeros n e =
-        ap₂ take (size-told ∙ ap length (sym q)) e ∙ part-patch 0 p zeros (omega (arith, copy-fits)) ∙ q
+    copied zeros n e = ap (take (length p)) e ∙ part-patch 0 p zeros (omega (arith, copy-fits)) ∙ q
 
   module _ {old : List ℕ} (same : old ≡ configAt i records) where
     pub old-short : length old ≤ 65535
@@ -116,12 +103,6 @@ module _ {caps records payload : List ℕ} {i : ℕ} {h : Head} {m : Marks} (r :
         → records′ ≡ patch (i * recordRoom) (keptOctets h anew) records
       renew-writes wrote = wrote ∙ ap (λ (l : List ℕ). patch (i * recordRoom) (keptOctets h l) records) store-same
 
--- the endpoint that is configured anew
-anew-as : (h : Head) (old config : List ℕ)
-  → endpointOf (reconfiguredHead (length config) h) config ≡ withConfig config (endpointOf h old)
-unfolding endpointOf withConfig
-anew-as h old config = refl
-
 -- ---- What is done at the endpoint
 
 module _ {book records p reply : List ℕ} {at : Place} (call : Named Reconfigure book records p reply at) where
@@ -134,15 +115,14 @@ module _ {book records p reply : List ℕ} {at : Place} (call : Named Reconfigur
   Finds w = checkOf Reconfiguring (items (take (at .size) (drop (at .from) book))) p 1 ≡ w
 
   config-here : endAt (endsOf book records) (at .index) .config ≡ configAt (at .index) records
-  unfolding endpointOf
   config-here = ap (λ (e : Endpoint). e .config) (stands call .shows)
 
-  busy : isIdle (endAt (endsOf book records) (at .index) .state) ≡ false
+  busy : isIdle (endAt (endsOf book records) (at .index) .head .state) ≡ false
   unfolding may
-  busy = open-busy (endAt (endsOf book records) (at .index) .state) (stands call .takes)
+  busy = open-busy (endAt (endsOf book records) (at .index) .head .state) (stands call .takes)
 
   pub renews : {caps : List ℕ} {h : Head} {m : Marks} → caps ≡ take (at .size) (drop (at .from) book)
-    → h ≡ loaded (recordAt (at .index) records) → Finds (Clean m) → Renews caps records p (at .index) h m
+    → h ≡ headIn (recordAt (at .index) records) → Finds (Clean m) → Renews caps records p (at .index) h m
   renews {h = h} {m = m} same loads e =
       let it = endAt (endsOf book records) (at .index) in
       let offers = take (at .size) (drop (at .from) book) in
@@ -178,17 +158,15 @@ module _ {book records p reply : List ℕ} {at : Place} (call : Named Reconfigur
       did-say call (reconfigureAt (endsOf book records) p) refl (rejectsFault Reconfigure f) (checked e) (h .0) (h .1)
 
   pub anew-moves : {m : Marks} {h : Head} {said : Said} {records′ : List ℕ} → Finds (Clean m)
-    → h ≡ loaded (recordAt (at .index) records) → said ≡ saidOf (accept [])
+    → h ≡ headIn (recordAt (at .index) records) → said ≡ saidOf (accept [])
     → records′
       ≡ patch (at .index * recordRoom)
           (keptOctets h (restored (items (drop 1 p)) (items (configAt (at .index) records)))) records
     → Obeys (obey Reconfigure) book records p reply said records′ reply
-  unfolding obey
+  unfolding obey withConfig
   anew-moves {h = h} e loads accepts wrote =
-      let old = configAt (at .index) records in
-      let config = restored (items (drop 1 p)) (items old) in
-      let here = ap (λ (x : Head). endpointOf x old) loads ∙ sym (stands call .shows) in
-      moved call (reconfigureAt (endsOf book records) p) refl h config (checked e)
-        (anew-as h old config
-         ∙ ap₂ (λ (l : List ℕ) (x : Endpoint). withConfig (restored (items (drop 1 p)) (items l)) x) (sym config-here) here)
+      moved call (reconfigureAt (endsOf book records) p) refl h
+        (restored (items (drop 1 p)) (items (configAt (at .index) records))) (checked e)
+        (ap₂ (λ (l : List ℕ) (x : Head). record { head = x; config = restored (items (drop 1 p)) (items l) }) (sym config-here)
+          (loads ∙ sym (ap (λ (x : Endpoint). x .head) (stands call .shows))))
         (anew-short (renews refl loads e)) accepts wrote

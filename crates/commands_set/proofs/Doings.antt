@@ -2,7 +2,7 @@
 -- which are two writes of which the second stands right before the first.
 use Prim.Native.Nat.{ℕ, _+_, _*_, _≤_}
 use native.Mathlib.Omega.{arith}
-use mathlib.Core.Path.{_≡_, refl, sym, ap, _∙_}
+use mathlib.Core.Path.{_≡_, sym, ap, _∙_}
 use mathlib.Core.List.{List, []}
 use mathlib.Core.Bool.{not}
 use lib.ListN.{length, take, drop}
@@ -10,10 +10,11 @@ use lib.Dec.{eqb}
 use Rattle.rules.specs.Octets.{if_then_else_}
 use Rattle.rules.specs.Book.{Entry, bookOf}
 use Rattle.rules.specs.Endpoints.{Endpoint, Ends}
-use Rattle.rules.specs.Saved.{recordRoom, headRoom}
+use Rattle.rules.specs.Saved.{recordRoom, headRoom, headOctets}
 use Rattle.rules.specs.Commands.{accept, Outcome, stays, moves, rejectsFault, named, obey}
 use Rattle.rules.specs.Answers.{saidOf}
 use Rattle.rules.specs.declared.Said.{Said}
+use Rattle.rules.specs.declared.Head.{Head}
 use Rattle.rules.specs.declared.Fault.{Fault}
 use Rattle.rules.specs.declared.Signal.{Signal}
 use Rattle.rules.proofs.Tests.{Told?, told, passed, failed}
@@ -25,9 +26,6 @@ use Rattle.elements.specs.declared.marks.Marks.{Marks}
 use Rattle.elements.specs.declared.walks.Walked.{Walked}
 use Rattle.elements.specs.declared.walks.Walked.the-variants.{Failed, Clean}
 use Rattle.book.specs.declared.places.Place.{Place}
-use Rattle.saved.specs.Records.{endpointOf, headOctets}
-use Rattle.saved.specs.Moved.{reconfiguredHead}
-use Rattle.saved.specs.declared.records.Endpoint.{Endpoint as Head}
 use Rattle.saved.proofs.OneStore.{stored-one}
 use Rattle.commands_reply.specs.Obeys.{endsOf, Obeys}
 use Rattle.commands_checks.specs.Named.{Named}
@@ -61,27 +59,26 @@ module _ {signal : Signal} {book records p reply : List ℕ} {at : Place} (call 
     → obey signal (bookOf book) (endsOf book records) p ≡ named signal (bookOf book) (endsOf book records) p on
     → (h : Head) (config : List ℕ) {e : Endpoint} {said : Said} {records′ : List ℕ}
     → on (at .index) (entryIn book p at) ≡ moves (endsOf book records) (at .index) e
-    → endpointOf (reconfiguredHead (length config) h) config ≡ e → length config ≤ 64 → said ≡ saidOf (accept [])
+    → record { head = h; config = config } ≡ e → length config ≤ 64 → said ≡ saidOf (accept [])
     → records′ ≡ patch (at .index * recordRoom) (keptOctets h config) records
     → Obeys (obey signal) book records p reply said records′ reply
   unfolding keptOctets
   moved on is h config outcome same short accepts wrote =
-      let h′ = reconfiguredHead (length config) h in
-      did-move call on is (endpointOf h′ config) (outcome ∙ ap (moves (endsOf book records) (at .index)) (sym same)) accepts
-        (wrote ∙ stored-one (length (bookOf book)) (at .index) records h′ config (stands call .placed .counted)
-          (call .serves .held) refl short)
+      did-move call on is (record { head = h; config = config })
+        (outcome ∙ ap (moves (endsOf book records) (at .index)) (sym same)) accepts
+        (wrote ∙ stored-one (length (bookOf book)) (at .index) records h config (stands call .placed .counted)
+          (call .serves .held) short)
 
 -- ---- The configuration, and then the head before it
 
-pub kept-by : (i : ℕ) (h h′ : Head) (config l b b′ : List ℕ) (n : ℕ) → (i + 1) * recordRoom ≤ length l → length config ≤ 64
-  → (b ≡ patch (i * recordRoom + headRoom) config l) × (n ≡ length config) → h′ ≡ reconfiguredHead n h
-  → b′ ≡ patch (i * recordRoom) (headOctets h′) b
+pub kept-by : (i : ℕ) (h : Head) (config l b b′ : List ℕ) (n : ℕ) → (i + 1) * recordRoom ≤ length l → length config ≤ 64
+  → (b ≡ patch (i * recordRoom + headRoom) config l) × (n ≡ length config)
+  → b′ ≡ patch (i * recordRoom) (headOctets h n) b
   → b′ ≡ patch (i * recordRoom) (keptOctets h config) l
 unfolding keptOctets headOctets
-kept-by i h h′ config l b b′ n inside short wrote same set =
-    let octets = headOctets (reconfiguredHead (length config) h) in
+kept-by i h config l b b′ n inside short wrote set =
+    let octets = headOctets h (length config) in
     set
-    ∙ ap (λ (x : Head). patch (i * recordRoom) (headOctets x) b) same
-    ∙ (λ j. patch (i * recordRoom) (headOctets (reconfiguredHead (wrote .1 j) h)) (wrote .0 j))
+    ∙ (λ j. patch (i * recordRoom) (headOctets h (wrote .1 j)) (wrote .0 j))
     ∙ sym (patch-comm (i * recordRoom) octets (i * recordRoom + headRoom) config l (omega arith) (omega arith))
     ∙ patch-append (i * recordRoom) octets config l (omega arith)

@@ -8,13 +8,13 @@ use borrow.Author.Tests.{leb-true}
 use lib.ListN.{length, take, drop, getD}
 use Rattle.rules.specs.Octets.{front}
 use Rattle.rules.specs.Elements.{items, faultIn, stored}
-use Rattle.rules.specs.Endpoints.{Endpoint, farRight, endAt}
-use Rattle.rules.specs.Saved.{recordRoom}
+use Rattle.rules.specs.Endpoints.{Endpoint, farRight, settledBy, endAt}
+use Rattle.rules.specs.Saved.{recordRoom, headIn}
 use Rattle.rules.specs.Commands.{accept, reject, moves, rejects, rejectsFault, lengthRight, farIn, settled, setAt, obey}
 use Rattle.rules.specs.Host.{payloadOf}
 use Rattle.rules.specs.Answers.{saidOf}
 use Rattle.rules.specs.declared.Said.{Said}
-use Rattle.rules.specs.declared.FarSeid.{FarSeid}
+use Rattle.rules.specs.declared.Head.{Head}
 use Rattle.rules.specs.declared.Fault.{Fault}
 use Rattle.rules.specs.declared.Rule.the-variants.{Setting}
 use Rattle.rules.specs.declared.Signal.the-variants.{SetConfiguration}
@@ -29,9 +29,7 @@ use Rattle.elements.proofs.Judging.{check-clean}
 use Rattle.elements_stored.specs.Stores.{markedStore, MarksFit}
 use Rattle.elements_stored.proofs.Stores.{set-stores}
 use Rattle.book.specs.declared.places.Place.{Place}
-use Rattle.saved.specs.Records.{loaded, endpointOf, recordAt, configAt}
-use Rattle.saved.specs.Moved.{settledHead, reconfiguredHead}
-use Rattle.saved.specs.declared.records.Endpoint.{Endpoint as Head}
+use Rattle.saved.specs.Records.{recordAt}
 use Rattle.commands_reply.specs.Obeys.{endsOf, Obeys}
 use Rattle.commands_checks.specs.Named.{Named}
 use Rattle.commands_checks.proofs.Meeting.{entryIn, stands}
@@ -45,12 +43,6 @@ stored-short : (l p : List ℕ) {m : Marks} → checkOf Setting (items l) p 2 �
 stored-short l p {m} e =
     let clean = check-clean Setting (items l) p 2 m (sym e) .0 in
     could-short l (stored (items (drop 2 p))) (stored-could (items l) (items (drop 2 p)) clean)
-
--- the endpoint that is settled
-settled-as : (h : Head) (old config : List ℕ) (far : FarSeid)
-  → endpointOf (reconfiguredHead (length config) (settledHead far 0 h)) config ≡ settled (endpointOf h old) far config
-unfolding endpointOf settled
-settled-as h old config far = refl
 
 -- ---- What is done at the endpoint
 
@@ -112,19 +104,17 @@ module _ {book records p reply : List ℕ} {at : Place} (call : Named SetConfigu
         did-say call (setAt (endsOf book records) p) refl (rejectsFault SetConfiguration f) (checked e) (h .0) (h .1)
 
     pub set-moves : {m k : Marks} {h h′ : Head} {said : Said} {records′ : List ℕ}
-      → Finds (Clean m) → k ≡ noMarks → h ≡ loaded (recordAt (at .index) records)
-      → h′ ≡ settledHead (farIn (getD p 1 0)) 0 h → said ≡ saidOf (accept [])
+      → Finds (Clean m) → k ≡ noMarks → h ≡ headIn (recordAt (at .index) records)
+      → h′ ≡ settledBy (farIn (getD p 1 0)) h → said ≡ saidOf (accept [])
       → records′ ≡ patch (at .index * recordRoom) (keptOctets h′ (markedStore p m p k)) records
       → Obeys (obey SetConfiguration) book records p reply said records′ reply
-    unfolding obey
+    unfolding obey settled
     set-moves {h = h} e none loads same accepts wrote =
         let far = farIn (getD p 1 0) in
         let config = stored (items (drop 2 p)) in
-        let old = configAt (at .index) records in
-        moved call (setAt (endsOf book records) p) refl (settledHead far 0 h) config (checked e)
-          (settled-as h old config far
-           ∙ ap (λ (x : Endpoint). settled x far config)
-               (ap (λ (x : Head). endpointOf x old) loads ∙ sym (stands call .shows)))
+        moved call (setAt (endsOf book records) p) refl (settledBy far h) config (checked e)
+          (ap (λ (x : Head). record { head = settledBy far x; config = config })
+             (loads ∙ sym (ap (λ (x : Endpoint). x .head) (stands call .shows))))
           (config-short e) accepts
           (wrote
            ∙ ap₂ (λ (x : Head) (l : List ℕ). patch (at .index * recordRoom) (keptOctets x l) records) same (store-same e none))

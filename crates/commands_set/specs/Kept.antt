@@ -5,24 +5,23 @@ use mathlib.Core.List.{List, _++_}
 use mathlib.Core.Bool.{true}
 use lib.ListN.{length}
 use Rattle.rules.specs.Elements.{items, couldStore}
-use Rattle.rules.specs.Saved.{recordRoom, configRoom}
+use Rattle.rules.specs.Saved.{recordRoom, configRoom, headIn, headOctets}
+use Rattle.rules.specs.declared.Head.{Head}
 use Rattle.rules.specs.declared.Rule.the-variants.{Reconfiguring}
 use Rattle.elements.specs.Walks.{checkOf}
 use Rattle.elements.specs.declared.marks.Marks.{Marks}
 use Rattle.elements.specs.declared.walks.Walked.the-variants.{Clean}
-use Rattle.saved.specs.Records.{loaded, headOctets, recordAt, configSizeAt, configAt}
-use Rattle.saved.specs.Moved.{reconfiguredHead}
-use Rattle.saved.specs.declared.records.Endpoint.{Endpoint as Head}
+use Rattle.saved.specs.Records.{recordAt, configSizeAt, configAt}
 
 -- the octets of a record with this configuration: the head, which tells its length, and the configuration
 unfoldable pub keptOctets : Head → List ℕ → List ℕ
-keptOctets h config = headOctets (reconfiguredHead (length config) h) ++ config
+keptOctets h config = headOctets h (length config) ++ config
 
 -- an endpoint that can be configured anew: record i has this head and a configuration that the list could store, and the elements
 -- of the payload have no fault
 pub record Renews (caps records payload : List ℕ) (i : ℕ) (h : Head) (m : Marks) : Type 0 where
   pub inside : (i + 1) * recordRoom ≤ length records
-  pub head : h ≡ loaded (recordAt i records)
+  pub head : h ≡ headIn (recordAt i records)
   pub told : configSizeAt i records ≤ configRoom
   pub could : couldStore (items caps) (configAt i records) ≡ true
   pub few : length caps ≤ 64

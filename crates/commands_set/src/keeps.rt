@@ -1,11 +1,10 @@
 // A configuration written into its endpoint's record, once, with the head that tells its length.
 use elements::marks::Marks;
 use elements_stored::config::store;
+use rules::Head;
 use rules::layout::HEAD;
 use rules::layout::RECORD;
-use saved::moves::reconfigured;
 use saved::records::set;
-use saved::records::Endpoint;
 
 ghost use mathlib.Core.Path.{_≡_};
 ghost use Prim.Native.Nat.{_+_, _*_, _≤_};
@@ -16,7 +15,7 @@ ghost use Rattle.elements_stored.specs.Stores.{markedStore, MarksFit};
 ghost use Rattle.commands_set.specs.Kept.{keptOctets};
 
 // Stores into record `index` the head and the configuration that the marks of the two lists pick.
-pub fn keep(records: &mut [u8], index: usize, head: Endpoint, new: &[u8], fresh: Marks, old: &[u8], left: Marks)
+pub fn keep(records: &mut [u8], index: usize, head: Head, new: &[u8], fresh: Marks, old: &[u8], left: Marks)
     requires { ⌜ ((index + 1) * recordRoom ≤ length (now records)) × MarksFit (now new) fresh × MarksFit (now old) left
       × (length (markedStore (now new) fresh (now old) left) ≤ 64) ⌝ }
     ensures { λ _. ⌜ now (records .exit)
@@ -24,5 +23,5 @@ pub fn keep(records: &mut [u8], index: usize, head: Endpoint, new: &[u8], fresh:
           (now (records .entry)) ⌝ }
 {
     let length = store(records, index * RECORD + HEAD, new, fresh, old, left);
-    set(records, index, reconfigured(head, length as u8));
+    set(records, index, head, length as u8);
 }

@@ -4,11 +4,11 @@ use book::places::Place;
 use elements::marks::Marks;
 use elements::walks::check;
 use elements::walks::Walked;
+use rules::Head;
 use rules::Rule;
 use rules::Said;
 use saved::records::config;
 use saved::records::get;
-use saved::records::Endpoint;
 
 ghost use mathlib.Core.Path.{_≡_};
 ghost use Prim.Native.Nat.{_*_};
@@ -25,7 +25,7 @@ ghost use Rattle.commands_set.specs.Kept.{Renews, keptOctets};
 
 // The elements are checked: they take the place of those of the stored configuration, or are added to them. What is stored is
 // copied first, as it is read while it is written anew.
-fn renew(caps: &[u8], records: &mut [u8], payload: &[u8], index: usize, head: Endpoint, marks: Marks)
+fn renew(caps: &[u8], records: &mut [u8], payload: &[u8], index: usize, head: Head, marks: Marks)
     requires { ⌜ Renews (now caps) (now records) (now payload) index head marks ⌝ }
     ensures { λ _. ⌜ now (records .exit)
       ≡ patch (index * recordRoom)
@@ -33,8 +33,9 @@ fn renew(caps: &[u8], records: &mut [u8], payload: &[u8], index: usize, head: En
           (now (records .entry)) ⌝ }
 {
     let mut copy = [0u8; 64];
-    let size = head.length as usize;
-    octets::put(&mut copy, 0, config(records, index));
+    let stored = config(records, index);
+    let size = stored.len();
+    octets::put(&mut copy, 0, stored);
     let old = &copy[..size];
     let walked = check(Rule::Setting, caps, old, 0);
     match walked {
@@ -54,8 +55,8 @@ pub fn reconfigure(book: &[u8], records: &mut [u8], payload: &[u8], reply: &mut 
     match walked {
         Walked::Failed(fault) => commands_reply::rejected_element(reply, fault),
         Walked::Clean(marks) => {
-            let e = get(records, at.index);
-            renew(caps, records, payload, at.index, e, marks);
+            let h = get(records, at.index);
+            renew(caps, records, payload, at.index, h, marks);
             commands_reply::accepted()
         }
     }

@@ -29,9 +29,9 @@ pub fn set_configuration(book: &[u8], records: &mut [u8], payload: &[u8], reply:
     match walked {
         Walked::Failed(fault) => commands_reply::rejected_element(reply, fault),
         Walked::Clean(marks) => {
-            let e = get(records, at.index);
+            let h = get(records, at.index);
             // with no marks nothing is taken of the second list, which so may be any
-            keep(records, at.index, settled(e, far, 0), payload, marks, payload, none());
+            keep(records, at.index, settled(h, far), payload, marks, payload, none());
             commands_reply::accepted()
         }
     }

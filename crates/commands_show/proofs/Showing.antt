@@ -19,7 +19,7 @@ use Rattle.rules.proofs.ShortReplies.{caps-short}
 use Rattle.octets.specs.Patch.{patch, part}
 use Rattle.octets.proofs.Patches.{front-patch}
 use Rattle.book.specs.declared.places.Place.{Place}
-use Rattle.saved.specs.Records.{endpointOf, configAt}
+use Rattle.saved.specs.Records.{configAt}
 use Rattle.commands_reply.specs.Obeys.{endsOf, Obeys}
 use Rattle.commands_checks.specs.Named.{Named}
 use Rattle.commands_checks.proofs.Meeting.{entryIn, stands, config-short}
@@ -64,7 +64,7 @@ module _ {book records p reply : List ℕ} {at : Place} where
   pub shows-config : Named GetConfiguration book records p reply at → {q reply′ : List ℕ} {said : Said}
     → q ≡ configAt (at .index) records → Says (accept q) said reply reply′
     → Obeys (obey GetConfiguration) book records p reply said records reply′
-  unfolding obey configurationAt endpointOf
+  unfolding obey configurationAt
   shows-config call {q} e h =
       did-say call (configurationAt (endsOf book records)) refl (accept q)
         (ap (λ (x : Endpoint). stays (endsOf book records) (accept (x .config))) (stands call .shows)

@@ -10,41 +10,43 @@ use borrow.Author.Tests.{not-true, not-false}
 use Rattle.rules.specs.Octets.{front}
 use Rattle.rules.specs.Elements.{items, has}
 use Rattle.rules.specs.Book.{Entry, bookOf, isSource}
-use Rattle.rules.specs.Endpoints.{Endpoint, awaiting, takesDelay, inState, withChannel, withDelay, leaving, endAt}
-use Rattle.rules.specs.Saved.{recordRoom, endsIn, pairIn}
+use Rattle.rules.specs.Endpoints.{awaiting, takesDelay, withDelay, opened, movedBy, leaving, endAt}
+use Rattle.rules.specs.Saved.{recordRoom, headIn, headOctets, endsIn, pairIn}
 use Rattle.rules.specs.Commands.{accept, reject, Outcome, moves, rejects, named, openAt, leaveAt, delayAt, obey}
 use Rattle.rules.specs.Host.{payloadOf}
 use Rattle.rules.specs.Answers.{saidOf}
 use Rattle.rules.specs.declared.Said.{Said}
 use Rattle.rules.specs.declared.State.{State}
-use Rattle.rules.specs.declared.State.the-variants.{Open}
-use Rattle.rules.specs.declared.Channel.the-variants.{Awaited}
 use Rattle.rules.specs.declared.Delay.the-variants.{Reported}
+use Rattle.rules.specs.declared.Head.{Head}
 use Rattle.rules.specs.declared.Signal.{Signal}
 use Rattle.rules.specs.declared.Signal.the-variants.{OpenUp, DelayReport}
 use Rattle.octets.specs.Patch.{patch}
 use Rattle.book.specs.declared.places.Place.{Place}
-use Rattle.saved.specs.Records.{loaded, endpointOf, headOctets, recordAt, configAt}
-use Rattle.saved.specs.Moved.{openedHead, leavingHead, delayedHead}
-use Rattle.saved.specs.declared.records.Endpoint.{Endpoint as Head}
-use Rattle.saved.proofs.OneStore.{head-moved}
+use Rattle.saved.specs.Records.{recordAt, configSizeAt, configAt}
 use Rattle.commands_reply.specs.Obeys.{endsOf, Obeys}
 use Rattle.commands_checks.specs.Named.{Named}
 use Rattle.commands_checks.proofs.Meeting.{entryIn, stands}
 use Rattle.commands_checks.proofs.Acting.{did-say, did-move}
-use Rattle.commands_stream.proofs.HeadStored.{left-stored}
+use Rattle.commands_stream.specs.Left.{leftAt}
+use Rattle.commands_stream.proofs.HeadStored.{moved-stored, left-stored}
 
 module _ {signal : Signal} {book records p reply : List ℕ} {at : Place} (call : Named signal book records p reply at)
     (on : ℕ → Entry → Outcome)
     (is : obey signal (bookOf book) (endsOf book records) p ≡ named signal (bookOf book) (endsOf book records) p on) where
-  -- a head with the same configuration
-  did-head : (h′ : Head) {said : Said} {records′ : List ℕ} → h′ .length ≡ loaded (recordAt (at .index) records) .length
-    → on (at .index) (entryIn book p at) ≡ moves (endsOf book records) (at .index) (endpointOf h′ (configAt (at .index) records))
-    → said ≡ saidOf (accept []) → records′ ≡ patch (at .index * recordRoom) (headOctets h′) records
+  -- the head moved, the configuration as it was
+  did-head : (move : Head → Head) {h h′ : Head} {said : Said} {records′ : List ℕ}
+    → on (at .index) (entryIn book p at)
+      ≡ moves (endsOf book records) (at .index) (movedBy move (endAt (endsOf book records) (at .index)))
+    → h ≡ headIn (recordAt (at .index) records) → h′ ≡ move h → said ≡ saidOf (accept [])
+    → records′ ≡ patch (at .index * recordRoom) (headOctets h′ (configSizeAt (at .index) records)) records
     → Obeys (obey signal) book records p reply said records′ reply
-  did-head h′ same o s w =
-      did-move call on is (endpointOf h′ (configAt (at .index) records)) o s
-        (w ∙ head-moved (length (bookOf book)) (at .index) records (stands call .placed .counted) (call .serves .held) h′ same)
+  did-head move o got moved s w =
+      did-move call on is (movedBy move (endAt (endsOf book records) (at .index))) o s
+        (w
+         ∙ ap (λ (x : Head). patch (at .index * recordRoom) (headOctets x (configSizeAt (at .index) records)) records)
+             (moved ∙ ap move got)
+         ∙ moved-stored (length (bookOf book)) (at .index) records (stands call .placed .counted) (call .serves .held) move)
 
 -- ---- Open
 
@@ -60,19 +62,13 @@ module _ {book records p reply : List ℕ} {at : Place} (call : Named OpenUp boo
   open-refused f h =
       did-say call (openAt (endsOf book records)) refl (rejects OpenUp 0 0x31) (rw (test, not-true b f)) (h .0) (h .1)
 
-  pub open-moves : not b ≡ false → {h h′ : Head} → h ≡ loaded (recordAt (at .index) records) → h′ ≡ openedHead h
+  pub open-moves : not b ≡ false → {h h′ : Head} → h ≡ headIn (recordAt (at .index) records) → h′ ≡ opened h
     → {said : Said} {records′ : List ℕ} → said ≡ saidOf (accept [])
-    → records′ ≡ patch (at .index * recordRoom) (headOctets h′) records
+    → records′ ≡ patch (at .index * recordRoom) (headOctets h′ (configSizeAt (at .index) records)) records
     → Obeys (obey OpenUp) book records p reply said records′ reply
-  unfolding obey openAt endpointOf inState withChannel
+  unfolding obey openAt
   open-moves t loads opens s w =
-      let head = opens ∙ ap openedHead loads in
-      did-head call (openAt (endsOf book records)) refl _ (ap (λ (x : Head). x .length) head)
-        (rw (test, not-false b t)
-          (ap (λ (e : Endpoint). moves (endsOf book records) (at .index) (withChannel Awaited (inState Open e)))
-             (stands call .shows)
-           ∙ ap (λ (x : Head). moves (endsOf book records) (at .index) (endpointOf x (configAt (at .index) records))) (sym head)))
-        s w
+      did-head call (openAt (endsOf book records)) refl opened (rw (test, not-false b t)) loads opens s w
 
 -- ---- Close and Abort
 
@@ -80,8 +76,7 @@ module _ {signal : Signal} {book records p reply : List ℕ} {at : Place} (call 
     (is : obey signal (bookOf book) (endsOf book records) p
       ≡ named signal (bookOf book) (endsOf book records) p (leaveAt to (endsOf book records))) where
   pub leaves : {said : Said} {records′ : List ℕ}
-    → (said ≡ saidOf (accept []))
-      × (records′ ≡ patch (at .index * recordRoom) (headOctets (leavingHead to (loaded (recordAt (at .index) records)))) records)
+    → (said ≡ saidOf (accept [])) × (records′ ≡ leftAt to (at .index) records)
     → Obeys (obey signal) book records p reply said records′ reply
   unfolding leaveAt
   leaves h =
@@ -93,7 +88,7 @@ module _ {signal : Signal} {book records p reply : List ℕ} {at : Place} (call 
 module _ {book records p reply : List ℕ} {at : Place} (call : Named DelayReport book records p reply at) {b : Bool} {q : List ℕ}
     (there : q ≡ configAt (at .index) records) (takes : b ≡ isSource (at .kind) && has 8 (items q)) where
   taken : takesDelay (entryIn book p at) (endAt (endsOf book records) (at .index)) ≡ b
-  unfolding takesDelay endpointOf
+  unfolding takesDelay
   taken =
       ap (takesDelay (entryIn book p at)) (stands call .shows)
       ∙ sym (takes ∙ ap (λ (x : List ℕ). isSource (at .kind) && has 8 (items x)) there)
@@ -105,16 +100,12 @@ module _ {book records p reply : List ℕ} {at : Place} (call : Named DelayRepor
   delay-refused f h =
       did-say call (delayAt (endsOf book records) p) refl (rejects DelayReport 0 0x19) (rw (taken, f)) (h .0) (h .1)
 
-  pub delay-moves : not b ≡ false → {h h′ : Head} → h ≡ loaded (recordAt (at .index) records)
-    → h′ ≡ delayedHead (pairIn (getD p 1 0) (getD p 2 0)) h → {said : Said} {records′ : List ℕ} → said ≡ saidOf (accept [])
-    → records′ ≡ patch (at .index * recordRoom) (headOctets h′) records
+  pub delay-moves : not b ≡ false → {h h′ : Head} → h ≡ headIn (recordAt (at .index) records)
+    → h′ ≡ withDelay (Reported (pairIn (getD p 1 0) (getD p 2 0))) h → {said : Said} {records′ : List ℕ}
+    → said ≡ saidOf (accept [])
+    → records′ ≡ patch (at .index * recordRoom) (headOctets h′ (configSizeAt (at .index) records)) records
     → Obeys (obey DelayReport) book records p reply said records′ reply
-  unfolding obey delayAt endpointOf withDelay
+  unfolding obey delayAt
   delay-moves t loads delays s w =
-      let tenths = pairIn (getD p 1 0) (getD p 2 0) in
-      let head = delays ∙ ap (delayedHead tenths) loads in
-      did-head call (delayAt (endsOf book records) p) refl _ (ap (λ (x : Head). x .length) head)
-        (rw (taken, t)
-          (ap (λ (e : Endpoint). moves (endsOf book records) (at .index) (withDelay (Reported tenths) e)) (stands call .shows)
-           ∙ ap (λ (x : Head). moves (endsOf book records) (at .index) (endpointOf x (configAt (at .index) records))) (sym head)))
-        s w
+      did-head call (delayAt (endsOf book records) p) refl (withDelay (Reported (pairIn (getD p 1 0) (getD p 2 0))))
+        (rw (taken, t)) loads delays s w

@@ -9,8 +9,8 @@ use lib.ListN.{length, drop, getD, set}
 use lib.Seq.{drop-cons, drop-length}
 use Rattle.rules.specs.Octets.{front}
 use Rattle.rules.specs.Book.{bookNumber, bookOf}
-use Rattle.rules.specs.Endpoints.{Ends, inState, endAt}
-use Rattle.rules.specs.Saved.{recordRoom, recordsRight, endsIn, storeEnds}
+use Rattle.rules.specs.Endpoints.{Ends, inState, movedBy, endAt}
+use Rattle.rules.specs.Saved.{recordRoom, headIn, headOctets, recordsRight, endsIn, storeEnds}
 use Rattle.rules.specs.Commands.{Reply, accept, stays, rejects, lengthRight, ourIn, shiftOne, shiftEach, shift}
 use Rattle.rules.specs.Host.{payloadOf}
 use Rattle.rules.specs.Answers.{saidOf}
@@ -20,8 +20,7 @@ use Rattle.rules.specs.declared.Signal.{Signal}
 use Rattle.rules.proofs.SavedReads.{Fits, ends-length, ends-back, ends-right, length-endsIn, read-short, octets-known}
 use Rattle.octets.specs.Patch.{patch}
 use Rattle.book.specs.declared.places.Place.{Place}
-use Rattle.saved.specs.Records.{loaded, headOctets, recordAt}
-use Rattle.saved.specs.Moved.{inStateHead}
+use Rattle.saved.specs.Records.{recordAt, configSizeAt}
 use Rattle.saved.specs.Held.{Held}
 use Rattle.saved.specs.Serves.{Serves}
 use Rattle.saved.proofs.OneStore.{record-inside}
@@ -31,7 +30,7 @@ use Rattle.commands_checks.specs.Met.{metOf}
 use Rattle.commands_checks.specs.declared.preambles.Met.{Met}
 use Rattle.commands_checks.specs.declared.preambles.Met.the-variants.{Refused, Here}
 use Rattle.commands_checks.proofs.Meeting.{metAs, meets-as, met-placed}
-use Rattle.commands_stream.proofs.HeadStored.{state-stored}
+use Rattle.commands_stream.proofs.HeadStored.{moved-stored}
 use Rattle.commands_stream.proofs.StoredOver.{Kept, kept-same, kept-set, kept-length, kept-short, store-over}
 
 module _ (signal : Signal) (to : State) where
@@ -102,10 +101,10 @@ module _ (signal : Signal) (to : State) where
 
         -- the endpoints with this one shifted
         abbrev shifted : Ends
-        shifted = set (endsOf book l) (at .index) (inState to (endAt (endsOf book l) (at .index)))
+        shifted = set (endsOf book l) (at .index) (movedBy (inState to) (endAt (endsOf book l) (at .index)))
 
         kept : Kept shifted (endsOf book l)
-        unfolding inState
+        unfolding movedBy
         kept = kept-set (endsOf book l) (at .index) _ refl
 
         fits : (ends : Ends) → Kept ends (endsOf book l) → (m : List ℕ) → length m ≡ length l → Fits ends m
@@ -117,12 +116,13 @@ module _ (signal : Signal) (to : State) where
             }
 
         pub reached-next : {l′ : List ℕ}
-          → l′ ≡ patch (at .index * recordRoom) (headOctets (inStateHead to (loaded (recordAt (at .index) l)))) l
+          → l′ ≡ patch (at .index * recordRoom)
+              (headOctets (inState to (headIn (recordAt (at .index) l))) (configSizeAt (at .index) l)) l
           → ((k : ℕ) → getD l′ k 0 < 256) → Reached book l₀ p l′ (i + 1)
         unfolding metAs shiftOne
         reached-next {l′} wrote octets =
             let made : l′ ≡ storeEnds shifted l =
-                  wrote ∙ state-stored (length (bookOf book)) (at .index) l counted (r .held) to in
+                  wrote ∙ moved-stored (length (bookOf book)) (at .index) l counted (r .held) (inState to) in
             let room = fits shifted kept l refl in
             let n : length shifted ≡ length (bookOf book) = kept-length kept ∙ length-endsIn (length (bookOf book)) l in
             let back : endsOf book l′ ≡ shifted =

@@ -11,7 +11,7 @@ use lib.Seq.{take-at, drop-at}
 use borrow.Author.Tests.{leb-true}
 use Rattle.rules.specs.Octets.{each-of, front}
 use Rattle.rules.specs.Endpoints.{Endpoint, Ends, endAt}
-use Rattle.rules.specs.Saved.{recordRoom, headOf, storeEnd, storeEnds}
+use Rattle.rules.specs.Saved.{recordRoom, headOctets, storeEnd, storeEnds}
 use Rattle.rules.proofs.Tests.{and-l, and-r, and-both}
 use Rattle.rules.proofs.SavedReads.{shortConfigs, Fits, end-length, first-room, rest-room}
 
@@ -48,10 +48,11 @@ front-over s t r e =
     ap (λ (x : List ℕ). s ++ x) (drop-at t (drop (length t) r) (length s) e ∙ ap (λ (k : ℕ). drop k r) e)
 
 end-over : (a b : Endpoint) (r : List ℕ) → a .config ≡ b .config → storeEnd a (storeEnd b r) ≡ storeEnd a r
-unfolding storeEnd headOf
+unfolding storeEnd headOctets
 end-over a b r e =
     let same : length (a .config) ≡ length (b .config) = ap length e in
-    front-over (headOf a ++ a .config) (headOf b ++ b .config) r (omega arith)
+    front-over (headOctets (a .head) (length (a .config)) ++ a .config)
+      (headOctets (b .head) (length (b .config)) ++ b .config) r (omega arith)
 
 pub store-over : {xs ys : Ends} → Kept xs ys → (l : List ℕ) → Fits ys l → storeEnds xs (storeEnds ys l) ≡ storeEnds xs l
 unfolding storeEnds each-of

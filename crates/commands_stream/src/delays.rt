@@ -4,7 +4,7 @@ use rules::Said;
 use saved::moves::delayed;
 use saved::records::config;
 use saved::records::get;
-use saved::records::set;
+use saved::records::set_head;
 
 ghost use mathlib.Core.Path.{_≡_};
 ghost use mathlib.Core.Bool.{_&&_};
@@ -33,8 +33,8 @@ pub fn delay_report(book: &[u8], records: &mut [u8], payload: &[u8], reply: &mut
     if !takes_delay(at.kind, config(records, at.index)) {
         return commands_reply::rejected(reply, 0x19);
     }
-    let e = get(records, at.index);
+    let h = get(records, at.index);
     let tenths = payload[1] as u16 * 256 + payload[2] as u16;
-    set(records, at.index, delayed(e, tenths));
+    set_head(records, at.index, delayed(h, tenths));
     commands_reply::accepted()
 }

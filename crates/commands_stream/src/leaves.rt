@@ -2,6 +2,12 @@
 use book::places::Place;
 use rules::Said;
 use rules::State;
+use saved::moves::idle;
+use saved::moves::in_state;
+use saved::records::get;
+use saved::records::set;
+use saved::records::set_head;
+use saved_states::is_up;
 
 ghost use mathlib.Core.Path.{_≡_};
 ghost use mathlib.Core.List.{[]};
@@ -11,22 +17,24 @@ ghost use Rattle.rules.specs.Saved.{recordRoom};
 ghost use Rattle.rules.specs.Commands.{accept, obey};
 ghost use Rattle.rules.specs.Answers.{saidOf};
 ghost use Rattle.rules.specs.declared.Signal.the-variants.{Close, Abort};
-ghost use Rattle.octets.specs.Patch.{patch};
-ghost use Rattle.saved.specs.Records.{loaded, headOctets, recordAt};
-ghost use Rattle.saved.specs.Moved.{leavingHead};
 ghost use Rattle.commands_reply.specs.Obeys.{Obeys};
 ghost use Rattle.commands_checks.specs.Named.{Named};
+ghost use Rattle.commands_stream.specs.Left.{leftAt};
 
 // Endpoint `index` leaves for the state `to`.
 fn leave(records: &mut [u8], index: usize, to: State) -> Said
     requires { ⌜ (index + 1) * recordRoom ≤ length (now records) ⌝ }
     ensures said { λ r. ⌜ r ≡ saidOf (accept []) ⌝ }
-    ensures records { λ _. ⌜ now (records .exit)
-      ≡ patch (index * recordRoom) (headOctets (leavingHead to (loaded (recordAt index (now (records .entry))))))
-          (now (records .entry)) ⌝ }
+    ensures records { λ _. ⌜ now (records .exit) ≡ leftAt to index (now (records .entry)) ⌝ }
 {
-    let e = saved::records::get(records, index);
-    saved::records::set(records, index, saved::moves::leaving(e, to));
+    let h = get(records, index);
+    let channel = h.channel;
+    if is_up(channel) {
+        set_head(records, index, in_state(h, to));
+        return commands_reply::accepted();
+    }
+    let seid = h.seid;
+    set(records, index, idle(seid), 0);
     commands_reply::accepted()
 }
 

@@ -5,7 +5,7 @@ use rules::layout::CHANNEL;
 use rules::layout::RECORD;
 use saved::moves::opened;
 use saved::records::get;
-use saved::records::set;
+use saved::records::set_head;
 
 ghost use mathlib.Core.Path.{_≡_};
 ghost use Prim.Native.Nat.{_*_, _≤_};
@@ -41,7 +41,7 @@ pub fn open_up(book: &[u8], records: &mut [u8], payload: &[u8], reply: &mut [u8]
     if !none_awaits(records, book::places::count(book)) {
         return commands_reply::rejected(reply, 0x31);
     }
-    let e = get(records, at.index);
-    set(records, at.index, opened(e));
+    let h = get(records, at.index);
+    set_head(records, at.index, opened(h));
     commands_reply::accepted()
 }

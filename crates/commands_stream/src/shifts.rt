@@ -10,13 +10,13 @@ use rules::State;
 ghost use mathlib.Core.Path.{_≡_};
 ghost use Prim.Native.Nat.{_+_, _*_, _≤_};
 ghost use lib.ListN.{length};
-ghost use Rattle.rules.specs.Saved.{recordRoom};
+ghost use Rattle.rules.specs.Endpoints.{inState};
+ghost use Rattle.rules.specs.Saved.{recordRoom, headIn, headOctets};
 ghost use Rattle.rules.specs.Commands.{obey};
 ghost use Rattle.rules.specs.Commands.{shift as shiftBy};
 ghost use Rattle.rules.specs.declared.Signal.the-variants.{Start, Suspend};
 ghost use Rattle.octets.specs.Patch.{patch};
-ghost use Rattle.saved.specs.Records.{loaded, headOctets, recordAt};
-ghost use Rattle.saved.specs.Moved.{inStateHead};
+ghost use Rattle.saved.specs.Records.{recordAt, configSizeAt};
 ghost use Rattle.saved.specs.Serves.{Serves};
 ghost use Rattle.commands_reply.specs.Obeys.{Obeys};
 
@@ -24,11 +24,12 @@ ghost use Rattle.commands_reply.specs.Obeys.{Obeys};
 fn shift_one(records: &mut [u8], index: usize, to: State)
     requires { ⌜ (index + 1) * recordRoom ≤ length (now records) ⌝ }
     ensures { λ _. ⌜ now (records .exit)
-      ≡ patch (index * recordRoom) (headOctets (inStateHead to (loaded (recordAt index (now (records .entry))))))
+      ≡ patch (index * recordRoom)
+          (headOctets (inState to (headIn (recordAt index (now (records .entry))))) (configSizeAt index (now (records .entry))))
           (now (records .entry)) ⌝ }
 {
-    let e = saved::records::get(records, index);
-    saved::records::set(records, index, saved::moves::in_state(e, to));
+    let h = saved::records::get(records, index);
+    saved::records::set_head(records, index, saved::moves::in_state(h, to));
 }
 
 fn shift(signal: Signal, to: State, book: &[u8], records: &mut [u8], payload: &[u8], reply: &mut [u8]) -> Said

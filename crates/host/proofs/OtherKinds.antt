@@ -18,7 +18,8 @@ use Rattle.rules.proofs.Tests.{Told?, told, passed, failed, and-l, between-leas
 use Rattle.rules.proofs.RightBook.{entryRight, right-book}
 use Rattle.rules.proofs.Places.{find-known}
 use Rattle.rules.proofs.ShortReplies.{entry-at}
-use Rattle.bridge.proofs.Refusing.{number-first, none-refused}
+use Rattle.rules.proofs.Unrefused.{none-refused}
+use Rattle.bridge.proofs.Refusing.{number-first}
 use Rattle.bridge.proofs.Happened.{event-refused}
 use Rattle.host.specs.Exports.{ours, eventOf}
 
@@ -60,7 +61,7 @@ zero-down book saved = go (told (eqb (refusalOf book saved) 0))
     go : Told? (eqb (refusalOf book saved) 0)
       → eventCall book saved (Down (ours 0)) ≡ record { number = numberOr (refusalOf book saved) 10; saved = saved }
     go (passed t) =
-        let z = eqb-true (refusalOf book saved) 0 t in rw (z, no-zero book (none-refused book saved z .0))
+        let z = eqb-true (refusalOf book saved) 0 t in rw (z, no-zero book (none-refused book saved z .book))
     go (failed t) =
         let n = refusalOf book saved in
         let h = eqb-false n 0 t in

@@ -1,5 +1,5 @@
--- What a right room says of the gathering in it, and that what is stored there is right again: a room is the saved area of a
--- connection without endpoints, so what is proved of saved areas holds of it.
+-- What a right room says of the gathering in it, and that what is stored there is right again: the mark and the length
+-- decide what is read, and a gathering within its limits reads back as itself.
 use borrow.Author.Tests.{leb-true, eqb-true, ne-eqb}
 use Prim.Native.Nat.{ℕ, _≤_}
 use native.Mathlib.Omega.{arith}

@@ -1,6 +1,5 @@
 -- The names of steps, states and channels, as tables.
 use Prim.Native.Nat.{ℕ}
-use Prim.Native.String.{String}
 use mathlib.Core.List.{List, [], _∷_}
 use Rattle.replay_script.specs.Tables.{linesOf, valueOf}
 

@@ -17,7 +17,7 @@ use Rattle.rules.specs.Elements.{fixed, isStrange, itemCode, judge, item
 use Rattle.rules.specs.Elements.{isOf, has}
 use Rattle.rules.specs.Book.{Entry, Book, Found, unknown, known, later, find, upToCodec, shownBy02}
 use Rattle.rules.specs.Packets.{Message}
-use Rattle.rules.specs.Endpoints.{Ends, Connection, idle, freshEnds, freshConnection, endAt, inState}
+use Rattle.rules.specs.Endpoints.{Ends, Connection, idle, freshEnds, freshConnection, endAt, inState, movedBy}
 use Rattle.rules.specs.Endpoints.{downAt, happens}
 use Rattle.rules.specs.Commands.{accept, Outcome, stays, rejects, lengthRight, ourIn, may, refused, here, metAt}
 use Rattle.rules.specs.Commands.{meets, preamble, atMet, named, discovered, discover, offersAt, setAt, configurationAt}
@@ -277,7 +277,8 @@ shift-one-same : (signal : Signal) (to : State) (s : OurSeid) (ends : Ends) (nex
     → MetAlike m m′ → ((x : Ends) → next x ≡ next′ x) → shiftOne signal to s ends next m ≡ shiftOne signal to s ends next′ m′
 unfolding shiftOne
 shift-one-same signal to s ends next next′ m m′ (both-refused code) rest = refl
-shift-one-same signal to s ends next next′ m m′ (both-here i n n′ e) rest = rest (set ends i (inState to (endAt ends i)))
+shift-one-same signal to s ends next next′ m m′ (both-here i n n′ e) rest =
+    rest (set ends i (movedBy (inState to) (endAt ends i)))
 
 module _ (signal : Signal) (to : State) {book book′ : Book} (same : AlikeBooks book book′) where
   shift-each-same : (ends : Ends) (os : List ℕ) → shiftEach signal to book ends os ≡ shiftEach signal to book′ ends os

@@ -11,7 +11,8 @@ use Rattle.rules.specs.Elements.{items, faultIn, stored, restored}
 use Rattle.rules.specs.Book.{Entry, Book}
 use Rattle.rules.specs.Packets.{Message}
 use Rattle.rules.specs.Endpoints.{Endpoint, Ends, isIdle, isUp, isAwaited, legalEnd, legalEnds, awaiting, takesDelay}
-use Rattle.rules.specs.Endpoints.{farRight, inState, withChannel, withDelay, withConfig, leaving, endAt, channelRight}
+use Rattle.rules.specs.Endpoints.{farRight, inState, withDelay, withConfig, leaving, endAt, channelRight}
+use Rattle.rules.specs.Endpoints.{movedBy, opened}
 use Rattle.rules.specs.Saved.{pairIn}
 use Rattle.rules.specs.Commands.{Reply, Outcome, stays, moves, lengthRight, ourIn, farIn, isOpen, may, discover, offersAt}
 use Rattle.rules.specs.Commands.{settled, setAt, configurationAt, reconfigureAt, openAt, shiftEach}
@@ -19,7 +20,7 @@ use Rattle.rules.specs.Commands.{shift, leaveAt, securityAt, delayAt, si
 use Rattle.rules.specs.declared.Rule.the-variants.{Setting, Reconfiguring}
 use Rattle.rules.specs.declared.State.{State}
 use Rattle.rules.specs.declared.State.the-variants.{Open, Streaming, Closing, Aborting}
-use Rattle.rules.specs.declared.Channel.the-variants.{Awaited, Up}
+use Rattle.rules.specs.declared.Channel.the-variants.{Up}
 use Rattle.rules.specs.declared.Delay.the-variants.{Reported}
 use Rattle.rules.specs.declared.Signal.{Signal}
 use Rattle.rules.specs.declared.Signal.the-variants.{Discover, GetCapabilities, SetConfiguration, GetConfiguration}
@@ -83,7 +84,7 @@ module _ (book : Book) (ends : Ends) (h : LegalEnds book ends) where
   reconfigure-at-legal p i n a opened =
       let e = endAt ends i in
       let t = legal-at a ends (h .every) in
-      let busy = open-busy (e .state) opened in
+      let busy = open-busy (e .head .state) opened in
       let caps = items (n .caps) in
       let asked = items (drop 1 p) in
       let fault = faultIn Reconfiguring caps asked in
@@ -101,7 +102,7 @@ module _ (book : Book) (ends : Ends) (h : LegalEnds book ends) where
   unfolding openAt moves may
   open-at-legal i n a configured =
       let e = endAt ends i in
-      let opened = withChannel Awaited (inState Open e) in
+      let opened = movedBy opened e in
       if-arms (Leaves book) (eqb (awaiting ends) 0) _ _
         (λ t.
           let none = eqb-true (awaiting ends) 0 t in
@@ -121,28 +122,28 @@ module _ (book : Book) (ends : Ends) (h : LegalEnds book ends) where
       moves-legal i n (leaving s e) a (leaving-legal n e (legal-at a ends (h .every)) s busy up) (leaving-awaits s e)
 
   delay-at-legal : (p : List ℕ) (i : ℕ) (n : Entry) → At book i n → Takes DelayReport ends i → Leaves book (delayAt ends p i n)
-  unfolding delayAt awaits withDelay may
+  unfolding delayAt awaits movedBy may
   delay-at-legal p i n a is-set =
       let e = endAt ends i in
       let heard = Reported (pairIn (getD p 1 0) (getD p 2 0)) in
       if-arms (Leaves book) (not (takesDelay n e)) _ _ (λ t. same-legal _) λ takes.
-      moves-legal i n (withDelay heard e) a
+      moves-legal i n (movedBy (withDelay heard) e) a
         (with-delay-legal n e (legal-at a ends (h .every)) heard is-set (not-false (takesDelay n e) takes))
         (omega arith)
 
 -- ---- Start and Suspend: one endpoint after the other, each by a legal move
 
 module _ (signal : Signal) (to : State) (book : Book)
-    (move : (n : Entry) (e : Endpoint) → legalEnd n e ≡ true → may signal (e .state) (e .channel) ≡ true
-      → legalEnd n (inState to e) ≡ true) where
+    (move : (n : Entry) (e : Endpoint) → legalEnd n e ≡ true → may signal (e .head .state) (e .head .channel) ≡ true
+      → legalEnd n (movedBy (inState to) e) ≡ true) where
   shift-each-legal : (os : List ℕ) (ends : Ends) → LegalEnds book ends → Leaves book (shiftEach signal to book ends os)
-  unfolding shiftEach awaits inState
+  unfolding shiftEach awaits movedBy
   shift-each-legal [] ends h = same-legal book ends h _
   shift-each-legal (o ∷ os) ends h =
       shift-arms signal book ends (Leaves book) to (ourIn o) _ (λ code. same-legal book ends h _) λ i n a m.
       let e = endAt ends i in
-      shift-each-legal os (set ends i (inState to e))
-        (put-legal book ends h i n (inState to e) a (move n e (legal-at a ends (h .every)) m) (omega arith))
+      shift-each-legal os (set ends i (movedBy (inState to) e))
+        (put-legal book ends h i n (movedBy (inState to) e) a (move n e (legal-at a ends (h .every)) m) (omega arith))
 
   shift-legal : (ends : Ends) → LegalEnds book ends → (p : List ℕ) → Leaves book (shift signal to book ends p)
   unfolding shift
@@ -167,7 +168,7 @@ module _ (book : Book) (ends : Ends) (h : LegalEnds book ends) where
       named-arms _ book ends (Leaves book) p _ (λ c. same-legal book ends h _) (open-at-legal book ends h)
   obey-legal Start p =
       shift-legal Start Streaming book
-        (λ n e t m. started-legal n e t (and-l (isOpen (e .state)) _ m) (and-r (isOpen (e .state)) _ m)) ends h p
+        (λ n e t m. started-legal n e t (and-l (isOpen (e .head .state)) _ m) (and-r (isOpen (e .head .state)) _ m)) ends h p
   obey-legal Close p =
       named-arms _ book ends (Leaves book) p _ (λ c. same-legal book ends h _)
         (λ i n a m. leave-at-legal book ends h Closing refl refl i n a)

@@ -24,7 +24,7 @@ use Rattle.rules.specs.Commands.{Reply, silence, generalReject, accept, 
 use Rattle.rules.specs.Host.{checkCall, numberOr, savedNumber, refusalOf, packetRefusal, Kept, freshCall, said, toldOf}
 use Rattle.rules.specs.Host.{payloadOf, turnOf, takes, Answered, packetCall, eventCall, settingsOf, Shown, shownAt}
 use Rattle.rules.specs.Host.{settingsCall, Heard, heardAt, delayCall, packetsCall, Cut, cutRefusal, cutCall, standingAt}
-use Rattle.rules.specs.Host.{statusCall, standing}
+use Rattle.rules.specs.Host.{statusCall}
 use Rattle.rules.specs.Sessions.{Call, check, fresh, packet, event, settings, delay, packets, cut, number, told, shown}
 use Rattle.rules.specs.Sessions.{heard, cutOff, kept, answered, asked, call, answers, status, stands}
 use Rattle.rules.specs.Table.{traceBook}
@@ -180,10 +180,10 @@ module _ (b : List ℕ) (size : ℕ) (saved p reply : List ℕ) where
   packet-answered next ok =
       let book = bookOf b in
       let c = connectionIn (length book) saved in
-      let s = gather size (c .gathering) p in
+      let s = gather size (c .link .gathering) p in
       let lawful = right-legal book saved (ok .right) in
       turn-listed saved size p reply next book (c .ends) (s .gathering) (s .done)
-        (λ m e. completed-bounded size (c .gathering) p m (legal-gathering book c lawful) e)
+        (λ m e. completed-bounded size (c .link .gathering) p m (legal-gathering book c lawful) e)
         (answer-short book (c .ends) (right-book b (ok .book)) (legal-ends book c lawful .every))
 
   packet-listed : Listed saved (packet size p reply) (answered (packetCall b size saved p reply))
@@ -200,7 +200,7 @@ down-among : (f : Found) (c : Connection) → Among (bookNumbers ++ (12 ∷ 10 �
 unfolding downAt member
 down-among unknown c = refl
 down-among (known i n) c =
-    if-arms (λ (m : Moved). Among (bookNumbers ++ (12 ∷ 10 ∷ [])) (m .number)) (isUp (endAt (c .ends) i .channel)) _ _
+    if-arms (λ (m : Moved). Among (bookNumbers ++ (12 ∷ 10 ∷ [])) (m .number)) (isUp (endAt (c .ends) i .head .channel)) _ _
       (λ t. refl) (λ f. refl)
 
 happens-among : (book : Book) (c : Connection) (e : Event) → Among (refusals (event e)) (happens book c e .number)
@@ -251,7 +251,7 @@ module _ (b saved : List ℕ) (s : OurSeid) where
   delay-found : (f : Found) (ends : Ends) → Listed saved (delay s) (record { answer = heard (heardAt f ends); saved = saved })
   unfolding heardAt refusals refusedWith member
   delay-found unknown ends = refused (delay s) 10 refl
-  delay-found (known i n) ends = hears s (endAt ends i .delay)
+  delay-found (known i n) ends = hears s (endAt ends i .head .delay)
 
   delay-listed : Listed saved (delay s) (asked saved (heard (delayCall b saved s)))
   unfolding delayCall asked refusals refusedWith
@@ -265,7 +265,7 @@ module _ (b saved : List ℕ) (s : OurSeid) where
       → Listed saved (status s) (record { answer = stands (standingAt f ends); saved = saved })
   unfolding standingAt refusals refusedWith member
   status-found unknown ends = refused (status s) 10 refl
-  status-found (known i n) ends = tells s (endAt ends i)
+  status-found (known i n) ends = tells s (endAt ends i .head)
 
   status-listed : Listed saved (status s) (asked saved (stands (statusCall b saved s)))
   unfolding statusCall asked refusals refusedWith

@@ -7,13 +7,13 @@ use lib.ListN.{replicate}
 use Rattle.rules.specs.Computed.{computed}
 use Rattle.rules.specs.Elements.{items, stored}
 use Rattle.rules.specs.Book.{bookOf}
-use Rattle.rules.specs.Endpoints.{Ends}
+use Rattle.rules.specs.Endpoints.{Ends, idleHead}
 use Rattle.rules.specs.Commands.{answer}
 use Rattle.rules.specs.Host.{packetCall, nothingSaid}
 use Rattle.rules.specs.Moves.{Stopped, isAccept, shifts}
 use Rattle.rules.specs.Table.{traceBook}
-use Rattle.rules.specs.declared.State.the-variants.{Idle, Open, Streaming}
-use Rattle.rules.specs.declared.Channel.the-variants.{Absent, Up}
+use Rattle.rules.specs.declared.State.the-variants.{Open, Streaming}
+use Rattle.rules.specs.declared.Channel.the-variants.{Up}
 use Rattle.rules.specs.declared.Delay.the-variants.{Unreported}
 use Rattle.rules.specs.declared.Signal.the-variants.{Start}
 use Rattle.rules.proofs.Moves.{start-stops, unmoved}
@@ -23,21 +23,11 @@ use Rattle.rules.proofs.Refused.{refused-packet}
 pub openAndIdle : Ends
 openAndIdle =
     record {
-      seid = record { 0 = 1 };
-      state = Open;
-      channel = Up;
-      far = record { 0 = 1 };
-      delay = Unreported;
+      head =
+        record { seid = record { 0 = 1 }; state = Open; channel = Up; far = record { 0 = 1 }; delay = Unreported };
       config = 0x01 ∷ 0x00 ∷ 0x07 ∷ 0x06 ∷ 0x00 ∷ 0x00 ∷ 0x21 ∷ 0x15 ∷ 0x02 ∷ 0x35 ∷ []
     }
-    ∷ record {
-      seid = record { 0 = 5 };
-      state = Idle;
-      channel = Absent;
-      far = record { 0 = 0 };
-      delay = Unreported;
-      config = []
-    }
+    ∷ record { head = idleHead (record { 0 = 5 }); config = [] }
     ∷ []
 
 -- a Start of both stops at the second

@@ -11,7 +11,7 @@ use Rattle.rules.specs.Elements.{items, has, couldStore}
 use Rattle.rules.specs.Book.{Entry}
 use Rattle.rules.specs.Endpoints.{Endpoint, idle, isAbsent, isAwaited, isUp, isIdle, isReported, channelRight, takesDelay}
 use Rattle.rules.specs.Endpoints.{delayRight, farRight, keepsNothing, keepsSettings, legalEnd, inState, withChannel}
-use Rattle.rules.specs.Endpoints.{withDelay, withConfig, forgotten, leaving}
+use Rattle.rules.specs.Endpoints.{withDelay, withConfig, forgotten, leaving, movedBy, opened}
 use Rattle.rules.specs.Commands.{isConfigured, isOpen, isStreaming, isSet, settled}
 use Rattle.rules.specs.declared.OurSeid.{OurSeid}
 use Rattle.rules.specs.declared.FarSeid.{FarSeid}
@@ -27,24 +27,24 @@ use Rattle.rules.proofs.Outcomes.{if-arms}
 -- ---- Legality taken apart and put together
 
 module _ (n : Entry) (e : Endpoint) (h : legalEnd n e ≡ true) where
-  pub legal-named : eqb (e .seid .0) (n .seid .0) ≡ true
+  pub legal-named : eqb (e .head .seid .0) (n .seid .0) ≡ true
   unfolding legalEnd
   legal-named = search (and-l, and-r)
 
-  pub legal-channel : channelRight (e .state) (e .channel) ≡ true
+  pub legal-channel : channelRight (e .head .state) (e .head .channel) ≡ true
   unfolding legalEnd
   legal-channel = search (and-l, and-r)
 
-  pub idle-keeps : isIdle (e .state) ≡ true → keepsNothing e ≡ true
+  pub idle-keeps : isIdle (e .head .state) ≡ true → keepsNothing e ≡ true
   unfolding legalEnd
-  idle-keeps i = rw i at (and-r (eqb (e .seid .0) (n .seid .0) && channelRight (e .state) (e .channel)) _ h)
+  idle-keeps i = rw i at (and-r (eqb (e .head .seid .0) (n .seid .0) && channelRight (e .head .state) (e .head .channel)) _ h)
 
-  pub busy-keeps : isIdle (e .state) ≡ false → keepsSettings n e ≡ true
+  pub busy-keeps : isIdle (e .head .state) ≡ false → keepsSettings n e ≡ true
   unfolding legalEnd
-  busy-keeps i = rw i at (and-r (eqb (e .seid .0) (n .seid .0) && channelRight (e .state) (e .channel)) _ h)
+  busy-keeps i = rw i at (and-r (eqb (e .head .seid .0) (n .seid .0) && channelRight (e .head .state) (e .head .channel)) _ h)
 
-pub busy-legal : (n : Entry) (e : Endpoint) → eqb (e .seid .0) (n .seid .0) ≡ true → channelRight (e .state) (e .channel) ≡ true
-    → isIdle (e .state) ≡ false → keepsSettings n e ≡ true → legalEnd n e ≡ true
+pub busy-legal : (n : Entry) (e : Endpoint) → eqb (e .head .seid .0) (n .seid .0) ≡ true
+    → channelRight (e .head .state) (e .head .channel) ≡ true → isIdle (e .head .state) ≡ false → keepsSettings n e ≡ true → legalEnd n e ≡ true
 unfolding legalEnd
 busy-legal n e s c i k = rw (s, c, i, k)
 
@@ -52,13 +52,13 @@ pub idle-legal : (n : Entry) (s : OurSeid) → eqb (s .0) (n .seid .0) ≡ true 
 unfolding legalEnd idle channelRight isAbsent isIdle keepsNothing isEmpty isReported
 idle-legal n s h = rw h
 
-pub keeps-all : (n : Entry) (e : Endpoint) → farRight (e .far) ≡ true → couldStore (items (n .caps)) (e .config) ≡ true
+pub keeps-all : (n : Entry) (e : Endpoint) → farRight (e .head .far) ≡ true → couldStore (items (n .caps)) (e .config) ≡ true
     → delayRight n e ≡ true → keepsSettings n e ≡ true
 unfolding keepsSettings
 keeps-all n e f c d = rw (f, c, d)
 
 module _ (n : Entry) (e : Endpoint) (h : keepsSettings n e ≡ true) where
-  pub keeps-far : farRight (e .far) ≡ true
+  pub keeps-far : farRight (e .head .far) ≡ true
   unfolding keepsSettings
   keeps-far = search (and-l, and-r)
 
@@ -135,50 +135,52 @@ awaited-up Aborting h = refl
 module _ (n : Entry) (e : Endpoint) (h : legalEnd n e ≡ true) where
   pub forgotten-legal : legalEnd n (forgotten e) ≡ true
   unfolding forgotten
-  forgotten-legal = idle-legal n (e .seid) (legal-named n e h)
+  forgotten-legal = idle-legal n (e .head .seid) (legal-named n e h)
 
   -- to a state that the channel is right for
-  pub in-state-legal : (s : State) → isIdle (e .state) ≡ false → isIdle s ≡ false → channelRight s (e .channel) ≡ true
-      → legalEnd n (inState s e) ≡ true
-  unfolding inState keepsSettings delayRight takesDelay
-  in-state-legal s i j c = busy-legal n (inState s e) (legal-named n e h) c j (busy-keeps n e h i)
+  pub in-state-legal : (s : State) → isIdle (e .head .state) ≡ false → isIdle s ≡ false → channelRight s (e .head .channel) ≡ true
+      → legalEnd n (movedBy (inState s) e) ≡ true
+  unfolding movedBy keepsSettings delayRight takesDelay
+  in-state-legal s i j c = busy-legal n (movedBy (inState s) e) (legal-named n e h) c j (busy-keeps n e h i)
 
-  pub opened-legal : isConfigured (e .state) ≡ true → legalEnd n (withChannel Awaited (inState Open e)) ≡ true
-  unfolding inState withChannel channelRight isAbsent isIdle keepsSettings delayRight takesDelay
+  pub opened-legal : isConfigured (e .head .state) ≡ true → legalEnd n (movedBy opened e) ≡ true
+  unfolding movedBy channelRight isAbsent isIdle keepsSettings delayRight takesDelay
   opened-legal i =
-      busy-legal n (withChannel Awaited (inState Open e)) (legal-named n e h) refl refl
-        (busy-keeps n e h (configured-busy (e .state) i))
+      busy-legal n (movedBy opened e) (legal-named n e h) refl refl
+        (busy-keeps n e h (configured-busy (e .head .state) i))
 
   -- to closing or aborting with a channel, to idle without one
   pub leaving-legal : (s : State) → isIdle s ≡ false → channelRight s Up ≡ true → legalEnd n (leaving s e) ≡ true
   unfolding leaving
   leaving-legal s i c =
-      if-arms (λ e′. legalEnd n e′ ≡ true) (isUp (e .channel)) (inState s e) (forgotten e)
+      if-arms (λ e′. legalEnd n e′ ≡ true) (isUp (e .head .channel)) (movedBy (inState s) e) (forgotten e)
         (λ u.
-          let up = up-is (e .channel) u in
-          in-state-legal s (up-busy (e .state) (rw up at (legal-channel n e h))) i (rw up c))
+          let up = up-is (e .head .channel) u in
+          in-state-legal s (up-busy (e .head .state) (rw up at (legal-channel n e h))) i (rw up c))
         (λ f. forgotten-legal)
 
-  pub started-legal : isOpen (e .state) ≡ true → isUp (e .channel) ≡ true → legalEnd n (inState Streaming e) ≡ true
+  pub started-legal : isOpen (e .head .state) ≡ true → isUp (e .head .channel) ≡ true
+      → legalEnd n (movedBy (inState Streaming) e) ≡ true
   unfolding channelRight isIdle
-  started-legal i u = in-state-legal Streaming (open-busy (e .state) i) refl u
+  started-legal i u = in-state-legal Streaming (open-busy (e .head .state) i) refl u
 
-  pub suspended-legal : isStreaming (e .state) ≡ true → legalEnd n (inState Open e) ≡ true
+  pub suspended-legal : isStreaming (e .head .state) ≡ true → legalEnd n (movedBy (inState Open) e) ≡ true
   unfolding channelRight isIdle isAbsent
   suspended-legal i =
-      let streaming = streaming-is (e .state) i in
-      let up = up-is (e .channel) (rw streaming at (legal-channel n e h)) in
+      let streaming = streaming-is (e .head .state) i in
+      let up = up-is (e .head .channel) (rw streaming at (legal-channel n e h)) in
       in-state-legal Open (rw streaming refl) refl (rw up refl)
 
-  pub with-delay-legal : (d : Delay) → isSet (e .state) ≡ true → takesDelay n e ≡ true → legalEnd n (withDelay d e) ≡ true
-  unfolding withDelay delayRight takesDelay
+  pub with-delay-legal : (d : Delay) → isSet (e .head .state) ≡ true → takesDelay n e ≡ true
+      → legalEnd n (movedBy (withDelay d) e) ≡ true
+  unfolding movedBy delayRight takesDelay
   with-delay-legal d i t =
-      let busy = set-busy (e .state) i in
+      let busy = set-busy (e .head .state) i in
       let kept = busy-keeps n e h busy in
-      busy-legal n (withDelay d e) (legal-named n e h) (legal-channel n e h) busy
-        (keeps-all n (withDelay d e) (keeps-far n e kept) (keeps-config n e kept) (or-r (not (isReported d)) _ t))
+      busy-legal n (movedBy (withDelay d) e) (legal-named n e h) (legal-channel n e h) busy
+        (keeps-all n (movedBy (withDelay d) e) (keeps-far n e kept) (keeps-config n e kept) (or-r (not (isReported d)) _ t))
 
-  pub with-config-legal : (l : List ℕ) → isIdle (e .state) ≡ false → couldStore (items (n .caps)) l ≡ true
+  pub with-config-legal : (l : List ℕ) → isIdle (e .head .state) ≡ false → couldStore (items (n .caps)) l ≡ true
       → has 8 (items l) ≡ has 8 (items (e .config)) → legalEnd n (withConfig l e) ≡ true
   unfolding withConfig delayRight takesDelay
   with-config-legal l busy could eight =
@@ -192,15 +194,16 @@ module _ (n : Entry) (e : Endpoint) (h : legalEnd n e ≡ true) where
   settled-legal far l f could =
       busy-legal n (settled e far l) (legal-named n e h) refl refl (keeps-all n (settled e far l) f could refl)
 
-  pub came-up-legal : isAwaited (e .channel) ≡ true → legalEnd n (withChannel Up e) ≡ true
-  unfolding withChannel keepsSettings delayRight takesDelay
+  pub came-up-legal : isAwaited (e .head .channel) ≡ true → legalEnd n (movedBy (withChannel Up) e) ≡ true
+  unfolding movedBy keepsSettings delayRight takesDelay
   came-up-legal a =
-      let up = awaited-up (e .state) (rw (awaited-is (e .channel) a) at (legal-channel n e h)) in
-      let busy = up-busy (e .state) up in
-      busy-legal n (withChannel Up e) (legal-named n e h) up busy (busy-keeps n e h busy)
+      let up = awaited-up (e .head .state) (rw (awaited-is (e .head .channel) a) at (legal-channel n e h)) in
+      let busy = up-busy (e .head .state) up in
+      busy-legal n (movedBy (withChannel Up) e) (legal-named n e h) up busy (busy-keeps n e h busy)
 
 -- an endpoint that leaves awaits no channel that it did not await before
 pub leaving-awaits : (s : State) (e : Endpoint) → awaits (leaving s e) ≤ awaits e
-unfolding leaving awaits inState forgotten idle isAwaited
+unfolding leaving awaits movedBy forgotten idle isAwaited
 leaving-awaits s e =
-    if-arms (λ e′. awaits e′ ≤ awaits e) (isUp (e .channel)) (inState s e) (forgotten e) (λ u. omega arith) (λ f. omega arith)
+    if-arms (λ e′. awaits e′ ≤ awaits e) (isUp (e .head .channel)) (movedBy (inState s) e) (forgotten e) (λ u. omega arith)
+      (λ f. omega arith)

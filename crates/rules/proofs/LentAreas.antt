@@ -44,7 +44,7 @@ pub takes-length : (book : Book) (size : ℕ) (c : Connection) (p : List ℕ)
     → takes book size c p .told .length ≡ length (takes book size c p .payload)
 unfolding takes
 takes-length book size c p =
-    turn-length book (c .ends) (gather size (c .gathering) p .gathering) (gather size (c .gathering) p .done)
+    turn-length book (c .ends) (gather size (c .link .gathering) p .gathering) (gather size (c .link .gathering) p .done)
 
 -- ---- packet: a number, and what the packet leads to
 

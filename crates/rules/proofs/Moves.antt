@@ -13,7 +13,7 @@ use Rattle.rules.specs.Octets.{if_then_else_, some-of}
 use Rattle.rules.specs.Elements.{items, faultIn}
 use Rattle.rules.specs.Book.{Entry, Book, Found, unknown, known, find}
 use Rattle.rules.specs.Packets.{Message}
-use Rattle.rules.specs.Endpoints.{Endpoint, Ends, endAt, inState, idle, farRight, awaiting, takesDelay}
+use Rattle.rules.specs.Endpoints.{Endpoint, Ends, endAt, inState, idle, farRight, awaiting, takesDelay, movedBy}
 use Rattle.rules.specs.Commands.{Reply, silence, generalReject, accept, reject, Outcome, stays, moves, rejects, lengthRight}
 use Rattle.rules.specs.Commands.{ourIn, farIn, wrongState, metAt, meets, named, discover, offersAt, setAt, configurationAt}
 use Rattle.rules.specs.Commands.{reconfigureAt, openAt, shiftOne, shiftEach, shift, leaveAt, securityAt, delayAt, signalOf}
@@ -121,12 +121,12 @@ moved-once to unknown ends i h = refl
 moved-once to (known j n) ends i h = go (told (eqb i j))
   where
     go : Told? (eqb i j)
-      → getD (set ends j (inState to (endAt ends j))) i (idle (record { 0 = 0 })) ≡ movedIf (eqb i j) to (endAt ends i)
+      → getD (set ends j (movedBy (inState to) (endAt ends j))) i (idle (record { 0 = 0 })) ≡ movedIf (eqb i j) to (endAt ends i)
     go (passed q) = rw (q, eqb-true i j q) (getD-set-same ends j _ _ (rw (eqb-true i j q) at h))
     go (failed q) = rw q (getD-set-other ends j i _ _ (eqb-false i j q))
 
 moved-either : (a b : Bool) (to : State) (e : Endpoint) → movedIf b to (movedIf a to e) ≡ movedIf (a || b) to e
-unfolding inState
+unfolding movedBy
 moved-either true true to e = refl
 moved-either true false to e = refl
 moved-either false b to e = refl
@@ -134,7 +134,7 @@ moved-either false b to e = refl
 still-below : (to : State) (f : Found) (ends : Ends) (i : ℕ) → i < length ends → i < length (movedOne to f ends)
 unfolding movedOne
 still-below to unknown ends i h = h
-still-below to (known j n) ends i h = lt-length-set ends j (inState to (endAt ends j)) h
+still-below to (known j n) ends i h = lt-length-set ends j (movedBy (inState to) (endAt ends j)) h
 
 pub moved-exactly : (to : State) (book : Book) (ends : Ends) (p : List ℕ) (i : ℕ) → i < length ends
   → endAt (movedAll to book ends p) i ≡ movedIf (lists i book p) to (endAt ends i)

@@ -87,7 +87,7 @@ down-not-12 : (f : Found) (c : Connection) → Not12 (downAt f c .number)
 unfolding downAt
 down-not-12 unknown c = below-12 10 (lit≤ tt)
 down-not-12 (known i n) c =
-    if-arms (λ (m : Moved). Not12 (m .number)) (isUp (endAt (c .ends) i .channel)) _ _ (λ t. below-12 0 (lit≤ tt))
+    if-arms (λ (m : Moved). Not12 (m .number)) (isUp (endAt (c .ends) i .head .channel)) _ _ (λ t. below-12 0 (lit≤ tt))
       (λ f. below-12 10 (lit≤ tt))
 
 happens-not-12 : (book : Book) (c : Connection) (e : Event) → Not12 (happens book c e .number)
@@ -116,7 +116,7 @@ standing-not-12 (known i n) ends = below-12 0 (lit≤ tt)
 heard-not-12 : (f : Found) (ends : Ends) → Not12 (heardAt f ends .number)
 unfolding heardAt
 heard-not-12 unknown ends = heard-number 10 Unreported (below-12 10 (lit≤ tt))
-heard-not-12 (known i n) ends = heard-number 0 (endAt ends i .delay) (below-12 0 (lit≤ tt))
+heard-not-12 (known i n) ends = heard-number 0 (endAt ends i .head .delay) (below-12 0 (lit≤ tt))
 
 -- ---- What the calls test on a right area
 

@@ -6,7 +6,7 @@ use mathlib.Core.Bool.{Bool, true, false}
 use lib.ListN.{length, getD, set}
 use Rattle.rules.specs.Octets.{if_then_else_}
 use Rattle.rules.specs.Book.{Entry, Book, Found, unknown, known, find}
-use Rattle.rules.specs.Endpoints.{Ends, inState, endAt}
+use Rattle.rules.specs.Endpoints.{Ends, inState, endAt, movedBy}
 use Rattle.rules.specs.Commands.{Outcome, stays, rejects, lengthRight, ourIn, may, wrongState, Met, refused, here}
 use Rattle.rules.specs.Commands.{metAt, meets, preamble, atMet, named, shiftOne}
 use Rattle.rules.specs.declared.OurSeid.{OurSeid}
@@ -20,7 +20,7 @@ if-arms P false x y f g = g refl
 
 -- the endpoint at a place takes the command in its state
 abbrev pub Takes : Signal → Ends → ℕ → Type 0
-Takes signal ends i = may signal (endAt ends i .state) (endAt ends i .channel) ≡ true
+Takes signal ends i = may signal (endAt ends i .head .state) (endAt ends i .head .channel) ≡ true
 
 module _ (signal : Signal) (book : Book) (ends : Ends) where
   module _ (P : Met → Type 0) (refuses : (code : ℕ) → P (refused code))
@@ -30,8 +30,8 @@ module _ (signal : Signal) (book : Book) (ends : Ends) where
     met-arms unknown there = refuses 0x12
     met-arms (known i n) there =
         let e = endAt ends i in
-        if-arms P (may signal (e .state) (e .channel)) (here i n) (refused (wrongState signal (e .state)))
-          (goes i n (there i n refl)) (λ f. refuses (wrongState signal (e .state)))
+        if-arms P (may signal (e .head .state) (e .head .channel)) (here i n) (refused (wrongState signal (e .head .state)))
+          (goes i n (there i n refl)) (λ f. refuses (wrongState signal (e .head .state)))
 
     meets-arms : (s : OurSeid) → P (meets signal book ends s)
     unfolding meets
@@ -53,7 +53,7 @@ module _ (signal : Signal) (book : Book) (ends : Ends) where
     -- of the first of the SEIDs that are shifted
     pub shift-arms : (to : State) (s : OurSeid) (next : Ends → Outcome)
         → ((code : ℕ) → P (stays ends (rejects signal (s .0 * 4) code)))
-        → ((i : ℕ) (n : Entry) → At book i n → Takes signal ends i → P (next (set ends i (inState to (endAt ends i)))))
+        → ((i : ℕ) (n : Entry) → At book i n → Takes signal ends i → P (next (set ends i (movedBy (inState to) (endAt ends i)))))
         → P (shiftOne signal to s ends next (meets signal book ends s))
     unfolding shiftOne
     shift-arms to s next refuses goes = meets-arms (λ m. P (shiftOne signal to s ends next m)) refuses goes s

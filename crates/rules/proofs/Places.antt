@@ -94,7 +94,7 @@ legal-set (there {m} {book = book} {i = i} a) (e ∷ ends) e′ h t =
 -- ---- How many await a channel
 
 unfoldable pub awaits : Endpoint → ℕ
-awaits e = if isAwaited (e .channel) then 1 else 0
+awaits e = if isAwaited (e .head .channel) then 1 else 0
 
 -- what was at the place no longer counts, and what is put there does
 pub awaiting-set : (ends : Ends) (i : ℕ) (e : Endpoint)
@@ -115,4 +115,4 @@ awaiting-kept ends i e h = let s = awaiting-set ends i e in omega arith
 
 pub awaiting-raised : (ends : Ends) (i : ℕ) (e : Endpoint) → awaiting (set ends i e) ≤ awaiting ends + 1
 unfolding awaits
-awaiting-raised ends i e = let s = awaiting-set ends i e in let one = awaits-one (isAwaited (e .channel)) in omega arith
+awaiting-raised ends i e = let s = awaiting-set ends i e in let one = awaits-one (isAwaited (e .head .channel)) in omega arith

@@ -22,7 +22,7 @@ use Rattle.rules.specs.Packets.{Message, Gathering, sizeRight, gather}
 use Rattle.rules.specs.Endpoints.{Ends, Connection, freshConnection, isUp, endAt, awaiting, withEnds, Moved, downAt}
 use Rattle.rules.specs.Endpoints.{happens}
 use Rattle.rules.specs.Saved.{connectionIn}
-use Rattle.rules.specs.Host.{turnOf, takes, settingsOf, shownAt, Heard, heardAt, standingAt, standing}
+use Rattle.rules.specs.Host.{turnOf, takes, settingsOf, shownAt, Heard, heardAt, standingAt}
 use Rattle.rules.specs.Sessions
 use Rattle.rules.specs.Sessions.{Call, check, fresh, packet, event, settings, delay, packets, cut, number, shown, heard}
 use Rattle.rules.specs.Sessions.{call, after, status, stands}
@@ -47,7 +47,7 @@ turn-quiet book ends g none q unused = q
 turn-quiet book ends g (some m) q unused = answer-quiet book ends m q unused
 
 turn-gathering : (book : Book) (ends : Ends) (g : Option Gathering) (m : Option Message)
-    → turnOf book ends g m .connection .gathering ≡ g
+    → turnOf book ends g m .connection .link .gathering ≡ g
 unfolding turnOf
 turn-gathering book ends g none = refl
 turn-gathering book ends g (some m) = refl
@@ -65,18 +65,18 @@ packet-taken size reply = go (sizeRight size) (told (ltb (length reply) 64))
 
 -- ---- One event, one question
 
-down-gathering : (f : Found) (c : Connection) → downAt f c .connection .gathering ≡ c .gathering
+down-gathering : (f : Found) (c : Connection) → downAt f c .connection .link .gathering ≡ c .link .gathering
 unfolding downAt withEnds
 down-gathering unknown c = refl
 down-gathering (known i n) c =
-    if-arms (λ (m : Moved). m .connection .gathering ≡ c .gathering) (isUp (endAt (c .ends) i .channel)) _ _
+    if-arms (λ (m : Moved). m .connection .link .gathering ≡ c .link .gathering) (isUp (endAt (c .ends) i .head .channel)) _ _
       (λ up. refl) (λ down. refl)
 
 happens-gathering : (book : Book) (c : Connection) (v : Event)
-    → happens book c v .connection .gathering ≡ afterEvent (c .gathering) v
+    → happens book c v .connection .link .gathering ≡ afterEvent (c .link .gathering) v
 unfolding happens afterEvent withEnds
 happens-gathering book c Event.Up =
-    if-arms (λ (m : Moved). m .connection .gathering ≡ c .gathering) (eqb (awaiting (c .ends)) 0) _ _
+    if-arms (λ (m : Moved). m .connection .link .gathering ≡ c .link .gathering) (eqb (awaiting (c .ends)) 0) _ _
       (λ nobody. refl) (λ somebody. refl)
 happens-gathering book c (Down s) = down-gathering (find s book) c
 happens-gathering book c Lost = refl
@@ -117,15 +117,15 @@ record Paced (book book′ : Book) (c : Connection) (k : Call) (calls : List Cal
   said : compared (says book c k) ≡ compared (says book′ c k)
   gone : goes book c k ≡ goes book′ c k
   still : quietEnds (goes book c k .ends) ≡ true
-  restrains : restrained (goes book c k .gathering) calls ≡ true
+  restrains : restrained (goes book c k .link .gathering) calls ≡ true
 
 module _ {book book′ : Book} (same : AlikeBooks book book′) (c : Connection) (q : quietEnds (c .ends) ≡ true)
     (calls : List Call) where
   packet-paced : (size : ℕ) (p reply : List ℕ) → Told? (eqb (packetNumber size reply) 0)
-      → restrained (c .gathering) (packet size p reply ∷ calls) ≡ true → Paced book book′ c (packet size p reply) calls
+      → restrained (c .link .gathering) (packet size p reply ∷ calls) ≡ true → Paced book book′ c (packet size p reply) calls
   unfolding restrained says goes takes
   packet-paced size p reply (passed taken) r =
-      let s = gather size (c .gathering) p in
+      let s = gather size (c .link .gathering) p in
       let heeds : not (usesIn (s .done)) && restrained (s .gathering) calls ≡ true = rw (← packet-taken size reply, taken) at r in
       let unused = not-passed (usesIn (s .done)) (and-l (not (usesIn (s .done))) (restrained (s .gathering) calls) heeds) in
       let turns = turn-same (c .ends) (s .gathering) (s .done) same unused in
@@ -144,7 +144,7 @@ module _ {book book′ : Book} (same : AlikeBooks book book′) (c : Connection)
         restrains = rw refused (rw (← packet-taken size reply, refused) at r)
       }
 
-  paced : (k : Call) → restrained (c .gathering) (k ∷ calls) ≡ true → Paced book book′ c k calls
+  paced : (k : Call) → restrained (c .link .gathering) (k ∷ calls) ≡ true → Paced book book′ c k calls
   unfolding restrained says goes freshConnection
   paced check r = record { said = refl; gone = refl; still = q; restrains = r }
   paced fresh r = record { said = refl; gone = fresh-same same; still = fresh-quiet book; restrains = r }
@@ -190,7 +190,7 @@ alike-more b b′ s s′ c k calls step step′ pace rest =
 
 module _ (b b′ : List ℕ) (ok : bookNumber b ≡ 0) (ok′ : bookNumber b′ ≡ 0) (same : AlikeBooks (bookOf b) (bookOf b′)) where
   alike-on : (calls : List Call) (s s′ : List ℕ) (c : Connection) → View b s c → View b′ s′ c → quietEnds (c .ends) ≡ true
-      → restrained (c .gathering) calls ≡ true → Alike b b′ s s′ calls calls
+      → restrained (c .link .gathering) calls ≡ true → Alike b b′ s s′ calls calls
   unfolding Sessions.answers after
   alike-on [] s s′ c v v′ q r =
       record {

@@ -108,6 +108,6 @@ unfolding computed plainBook
 plain-offers = refl
 
 -- and the headset does stream
-pub headset-streams : endAt (connectionIn 2 (after traceBook lostArea (headsetCalls replyArea)) .ends) 0 .state ≡ Streaming
+pub headset-streams : endAt (connectionIn 2 (after traceBook lostArea (headsetCalls replyArea)) .ends) 0 .head .state ≡ Streaming
 unfolding computed traceBook delayedArea headsetCalls
 headset-streams = refl

@@ -16,9 +16,9 @@ use Rattle.rules.specs.Elements.{Item, items, itemsPast, faultIn, has, o
 use Rattle.rules.specs.Elements.{stored, restored}
 use Rattle.rules.specs.Book.{Entry, Book, Found, unknown, known, find}
 use Rattle.rules.specs.Packets.{Message}
-use Rattle.rules.specs.Endpoints.{Endpoint, Ends, Connection, idle, freshEnds, isAwaited, isUp, isReported}
+use Rattle.rules.specs.Endpoints.{Endpoint, Ends, Connection, idle, freshEnds, isAwaited, isUp, isReported, movedBy}
 use Rattle.rules.specs.Endpoints.{farRight, inState, withChannel, withConfig, forgotten, leaving, endAt, awaiting}
-use Rattle.rules.specs.Endpoints.{upIn, withEnds, Moved, downAt, happens}
+use Rattle.rules.specs.Endpoints.{upIn, withEnds, Moved, downAt, happens, opened}
 use Rattle.rules.specs.Commands.{Reply, Outcome, stays, moves, lengthRight, ourIn, farIn, named, discover, offersAt}
 use Rattle.rules.specs.Commands.{settled, setAt, configurationAt, reconfigureAt, openAt, shiftEach, shift, leaveAt}
 use Rattle.rules.specs.Commands.{securityAt, signalOf, obey, answer}
@@ -27,9 +27,8 @@ use Rattle.rules.specs.declared.OurSeid.{OurSeid}
 use Rattle.rules.specs.declared.Rule.the-variants.{Setting, Reconfiguring}
 use Rattle.rules.specs.declared.FarSeid.{FarSeid}
 use Rattle.rules.specs.declared.State.{State}
-use Rattle.rules.specs.declared.State.the-variants.{Open}
-use Rattle.rules.specs.declared.Channel.{Channel}
-use Rattle.rules.specs.declared.Channel.the-variants.{Awaited, Up}
+use Rattle.rules.specs.declared.Channel.the-variants.{Up}
+use Rattle.rules.specs.declared.Head.{Head}
 use Rattle.rules.specs.declared.Event.{Event}
 use Rattle.rules.specs.declared.Event.the-variants.{Down, Lost}
 use Rattle.rules.specs.declared.Signal.{Signal}
@@ -64,7 +63,7 @@ module _ {A : Type 0} (p : A → Bool) where
 -- ---- Quiet: no reported delay, and no category 8 configured
 
 quietEnd : Endpoint → Bool
-quietEnd e = not (isReported (e .delay)) && not (has 8 (items (e .config)))
+quietEnd e = not (isReported (e .head .delay)) && not (has 8 (items (e .config)))
 
 pub quietEnds : Ends → Bool
 quietEnds ends = each-of quietEnd ends
@@ -72,8 +71,8 @@ quietEnds ends = each-of quietEnd ends
 pub quiet-unreported : (ends : Ends) → quietEnds ends ≡ true → noneReported ends ≡ true
 unfolding quietEnds quietEnd noneReported
 quiet-unreported ends q =
-    each-weaker quietEnd (λ e. not (isReported (e .delay)))
-      (λ e. and-l (not (isReported (e .delay))) (not (has 8 (items (e .config))))) ends q
+    each-weaker quietEnd (λ e. not (isReported (e .head .delay)))
+      (λ e. and-l (not (isReported (e .head .delay))) (not (has 8 (items (e .config))))) ends q
 
 idle-quiet : (s : OurSeid) → quietEnd (idle s) ≡ true
 unfolding quietEnd idle isReported has itemsPast some-of
@@ -95,23 +94,21 @@ set-quiet = each-set quietEnd
 
 -- ---- Moves of one endpoint
 
-in-state-quiet : (s : State) (e : Endpoint) → quietEnd e ≡ true → quietEnd (inState s e) ≡ true
-unfolding quietEnd inState
-in-state-quiet s e q = q
-
-with-channel-quiet : (c : Channel) (e : Endpoint) → quietEnd e ≡ true → quietEnd (withChannel c e) ≡ true
-unfolding quietEnd withChannel
-with-channel-quiet c e q = q
+-- a move of the head that leaves the delay
+moved-quiet : (move : Head → Head) (e : Endpoint) → move (e .head) .delay ≡ e .head .delay → quietEnd e ≡ true
+    → quietEnd (movedBy move e) ≡ true
+unfolding quietEnd movedBy
+moved-quiet move e same q = rw same q
 
 forgotten-quiet : (e : Endpoint) → quietEnd (forgotten e) ≡ true
 unfolding forgotten
-forgotten-quiet e = idle-quiet (e .seid)
+forgotten-quiet e = idle-quiet (e .head .seid)
 
 leaving-quiet : (s : State) (e : Endpoint) → quietEnd e ≡ true → quietEnd (leaving s e) ≡ true
 unfolding leaving
 leaving-quiet s e q =
-    if-arms (λ (x : Endpoint). quietEnd x ≡ true) (isUp (e .channel)) (inState s e) (forgotten e)
-      (λ up. in-state-quiet s e q) (λ down. forgotten-quiet e)
+    if-arms (λ (x : Endpoint). quietEnd x ≡ true) (isUp (e .head .channel)) (movedBy (inState s) e) (forgotten e)
+      (λ up. moved-quiet (inState s) e refl q) (λ down. forgotten-quiet e)
 
 delaying-offerable : member 8 offerable ≡ true
 unfolding member offerable
@@ -161,7 +158,7 @@ module _ (ends : Ends) (q : quietEnds ends ≡ true) where
   open-at-quiet i n =
       if-arms Quiet (eqb (awaiting ends) 0) _ _
         (λ t. moves-quiet i _
-           (with-channel-quiet Awaited (inState Open (endAt ends i)) (in-state-quiet Open (endAt ends i) (at-quiet ends i q))))
+           (moved-quiet opened (endAt ends i) refl (at-quiet ends i q)))
         (λ t. stays-quiet _)
 
   leave-at-quiet : (to : State) (i : ℕ) (n : Entry) → Quiet (leaveAt to ends i n)
@@ -174,8 +171,9 @@ unfolding shiftEach
 shift-each-quiet signal to book ends [] q = stays-quiet ends q _
 shift-each-quiet signal to book ends (o ∷ os) q =
     shift-arms signal book ends Quiet to (ourIn o) _ (λ code. stays-quiet ends q _) λ i n there m.
-      shift-each-quiet signal to book (set ends i (inState to (endAt ends i))) os
-        (set-quiet ends i (inState to (endAt ends i)) q (in-state-quiet to (endAt ends i) (at-quiet ends i q)))
+      shift-each-quiet signal to book (set ends i (movedBy (inState to) (endAt ends i))) os
+        (set-quiet ends i (movedBy (inState to) (endAt ends i)) q
+          (moved-quiet (inState to) (endAt ends i) refl (at-quiet ends i q)))
 
 shift-quiet : (signal : Signal) (to : State) (book : Book) (ends : Ends) (p : List ℕ) → quietEnds ends ≡ true
     → Quiet (shift signal to book ends p)
@@ -224,8 +222,8 @@ up-quiet [] q = refl
 up-quiet (e ∷ ends) q =
     let first = and-l (quietEnd e) (quietEnds ends) q in
     let rest = and-r (quietEnd e) (quietEnds ends) q in
-    if-arms (λ (l : Ends). quietEnds l ≡ true) (isAwaited (e .channel)) (withChannel Up e ∷ ends) (e ∷ upIn ends)
-      (λ t. and-both (quietEnd (withChannel Up e)) (quietEnds ends) (with-channel-quiet Up e first) rest)
+    if-arms (λ (l : Ends). quietEnds l ≡ true) (isAwaited (e .head .channel)) (movedBy (withChannel Up) e ∷ ends) (e ∷ upIn ends)
+      (λ t. and-both (quietEnd (movedBy (withChannel Up) e)) (quietEnds ends) (moved-quiet (withChannel Up) e refl first) rest)
       (λ t. and-both (quietEnd e) (quietEnds (upIn ends)) first (up-quiet ends rest))
 
 lost-quiet : (ends : Ends) → quietEnds (map forgotten ends) ≡ true
@@ -241,7 +239,7 @@ down-quiet : (f : Found) (c : Connection) → quietEnds (c .ends) ≡ true → Q
 unfolding downAt withEnds
 down-quiet unknown c q = q
 down-quiet (known i n) c q =
-    if-arms QuietMoved (isUp (endAt (c .ends) i .channel)) _ _
+    if-arms QuietMoved (isUp (endAt (c .ends) i .head .channel)) _ _
       (λ t. set-quiet (c .ends) i (forgotten (endAt (c .ends) i)) q (forgotten-quiet (endAt (c .ends) i)))
       (λ t. q)
 

@@ -1,5 +1,5 @@
--- A refusal changes no area and no connection, and silence writes nothing: each call ends in one test of its number, and the
--- branch that answers has the number 0.
+-- A refusal changes no area and no connection, and silence leaves the reply area alone: each call ends in one test of its number,
+-- and the branch that answers has the number 0.
 use Prim.Native.Nat.{ℕ}
 use mathlib.Core.Path.{_≡_, refl, ap, _∙_}
 use mathlib.Core.List.{List, [], _∷_}
@@ -72,8 +72,8 @@ turn-number book ends g (some m) = answer-number m (answer book ends m .reply)
 
 takes-number : (book : Book) (size : ℕ) (c : Connection) (p : List ℕ) → takes book size c p .told .number ≡ 0
 unfolding takes
-takes-number book size c p = turn-number book (c .ends) (gather size (c .gathering) p .gathering)
-    (gather size (c .gathering) p .done)
+takes-number book size c p = turn-number book (c .ends) (gather size (c .link .gathering) p .gathering)
+    (gather size (c .link .gathering) p .done)
 
 packet-back : (number : ℕ) (t : Turn) (saved reply : List ℕ) → t .told .number ≡ 0
   → let a : Answered =
@@ -138,7 +138,8 @@ unfolding packetCall takes
 silent-packet book size saved p reply =
     let c = connectionIn (length (bookOf book)) saved in
     packet-silent (packetRefusal book size saved reply) (takes (bookOf book) size c p) saved reply
-      (turn-silent (bookOf book) (c .ends) (gather size (c .gathering) p .gathering) (gather size (c .gathering) p .done))
+      (turn-silent (bookOf book) (c .ends) (gather size (c .link .gathering) p .gathering)
+        (gather size (c .link .gathering) p .done))
 
 -- ---- settings, delay and cut
 
@@ -169,7 +170,7 @@ none-heard : (f : Found) (ends : Ends) → (heardAt f ends .number ≡ 0 → ⊥
     ≡ heard (heardAt f ends .number) Unreported
 unfolding heardAt heard
 none-heard unknown ends h = refl
-none-heard (known i n) ends h = absurd (h (heard-number 0 (endAt ends i .delay)))
+none-heard (known i n) ends h = absurd (h (heard-number 0 (endAt ends i .head .delay)))
 
 pub refused-delay : (book saved : List ℕ) (s : OurSeid) → (delayCall book saved s .number ≡ 0 → ⊥)
   → delayCall book saved s ≡ heard (delayCall book saved s .number) Unreported

@@ -8,21 +8,21 @@ use mathlib.Core.List.{List, [], _∷_, _++_}
 use mathlib.Core.Bool.{Bool, true, false, _&&_, _||_}
 use mathlib.Core.Option.{Option, none, some}
 use mathlib.Core.Logic.{_⊎_, inl, inr}
-use lib.ListN.{length, take, drop, getD, set, replicate, length-append, length-take, length-drop, length-set, take-append-drop}
+use lib.ListN.{length, take, drop, getD, replicate, length-append, length-take, length-drop, take-append-drop}
 use lib.Seq.{length-take-le, take-append-seam, take-at, drop-at, drop-drop, drop-cons, take-suc, take-add}
 use lib.Seq.{length-front as length-joined}
 use lib.Dec.{leb, ltb, eqb, lit<, lit≤}
 use lib.Arith.{digits-div, digits-mod}
 use borrow.Author.Tests.{leb-true, le-leb, ltb-true, lt-ltb, eqb-true}
-use Rattle.rules.specs.Octets.{octetsIn, if_then_else_, sameOctets, each-of, front}
+use Rattle.rules.specs.Octets.{octetsIn, sameOctets, each-of, front}
 use Rattle.rules.specs.Book.{bookOf}
 use Rattle.rules.specs.Packets.{Gathering, longest}
-use Rattle.rules.specs.Endpoints.{Endpoint, Ends, Connection, withEnds, freshConnection}
+use Rattle.rules.specs.Endpoints.{Endpoint, Ends, Connection, freshConnection}
 use Rattle.rules.specs.Saved.{countRoom, gatheringRoom, linkRoom, recordsPlace, recordRoom, headRoom, configRoom}
 use Rattle.rules.specs.Saved.{areaFor, countIn, linkOf, recordsOf, unused, pairIn, stateIn, stateOctet, channelIn}
 use Rattle.rules.specs.Saved.{channelOctet}
-use Rattle.rules.specs.Saved.{delayIn, delayMark, delayTenths, endpointIn, recordRight, headOf, storeEnd}
-use Rattle.rules.specs.Saved.{endsIn, recordsRight, storeEnds, gatheringAt, gatheringIn, gatheringOctetsRight}
+use Rattle.rules.specs.Saved.{delayIn, delayMark, delayTenths, headIn, configIn, endpointIn, recordRight, headOctets}
+use Rattle.rules.specs.Saved.{storeEnd, endsIn, recordsRight, storeEnds, gatheringAt, gatheringIn, gatheringOctetsRight}
 use Rattle.rules.specs.Saved.{gatheringHead, storeGathering, connectionIn, store}
 use Rattle.rules.specs.Computed.{computed}
 use Rattle.rules.specs.Table.{traceBook}
@@ -46,7 +46,7 @@ PayloadFits (some g) = length (g .message .payload) ≤ 512
 pub record Roomy (c : Connection) (l : List ℕ) : Type 0 where
   pub area : areaFor (length (c .ends)) ≤ length l
   pub configs : shortConfigs (c .ends) ≡ true
-  pub payload : PayloadFits (c .gathering)
+  pub payload : PayloadFits (c .link .gathering)
 
 -- ---- What is read of one stored record, and of the stored gathering
 
@@ -72,15 +72,18 @@ delay-back Unreported = refl
 delay-back (Reported d) = ap Reported (div-add-mod' d 256)
 
 pub end-back : (e : Endpoint) (r : List ℕ) → endpointIn (storeEnd e r) ≡ e
-unfolding endpointIn storeEnd headOf front
+unfolding endpointIn headIn configIn storeEnd headOctets front
 end-back e r = λ i.
     record {
-      seid = e .seid;
-      state = state-back (e .state) i;
-      channel = channel-back (e .channel) i;
-      far = e .far;
-      delay = delay-back (e .delay) i;
-      config = take-append-seam (e .config) (drop (length (headOf e ++ e .config)) r) i
+      head =
+        record {
+          seid = e .head .seid;
+          state = state-back (e .head .state) i;
+          channel = channel-back (e .head .channel) i;
+          far = e .head .far;
+          delay = delay-back (e .head .delay) i
+        };
+      config = take-append-seam (e .config) (drop (length (headOctets (e .head) (length (e .config)) ++ e .config)) r) i
     }
 
 pub gathering-back : (g : Option Gathering) (r : List ℕ) → gatheringIn (storeGathering g r) ≡ g
@@ -104,8 +107,9 @@ gathering-back (some g) r = λ i.
 -- a stored record is as long as what it replaces, and its octets are right
 pub end-length : (e : Endpoint) (r : List ℕ) → length (e .config) ≤ 64 → length r ≡ recordRoom → length (storeEnd e r)
     ≡ recordRoom
-unfolding storeEnd headOf
-end-length e r short long = front-length (headOf e ++ e .config) r (omega arith) ∙ long
+unfolding storeEnd headOctets
+end-length e r short long =
+    front-length (headOctets (e .head) (length (e .config)) ++ e .config) r (omega arith) ∙ long
 
 pub gathering-length : (g : Option Gathering) (r : List ℕ) → PayloadFits g → length r ≡ gatheringRoom
     → length (storeGathering g r) ≡ gatheringRoom
@@ -132,9 +136,9 @@ delay-written Unreported = refl
 delay-written (Reported d) = refl
 
 pub end-right : (e : Endpoint) (r : List ℕ) → leb (length (e .config)) 64 ≡ true → recordRight (storeEnd e r) ≡ true
-unfolding recordRight storeEnd headOf front sameOctets
+unfolding recordRight storeEnd headOctets front sameOctets
 end-right e r short =
-    simp (state-written (e .state), channel-written (e .channel), delay-written (e .delay), short) refl
+    simp (state-written (e .head .state), channel-written (e .head .channel), delay-written (e .head .delay), short) refl
 
 pub gathering-right : (g : Option Gathering) (r : List ℕ) → PayloadFits g → gatheringOctetsRight (storeGathering g r) ≡ true
 unfolding gatheringOctetsRight storeGathering gatheringHead front longest
@@ -231,21 +235,21 @@ module _ (c : Connection) (l : List ℕ) (roomy : Roomy c l) where
   records-fit : Fits (c .ends) (recordsOf l)
   records-fit = record { short = roomy .configs; room = records-room (length (c .ends)) l (roomy .area) }
 
-  gathering-stored-length : length (storeGathering (c .gathering) (linkOf l)) ≡ linkRoom
+  gathering-stored-length : length (storeGathering (c .link .gathering) (linkOf l)) ≡ linkRoom
   gathering-stored-length =
-      gathering-length (c .gathering) (linkOf l) (roomy .payload)
+      gathering-length (c .link .gathering) (linkOf l) (roomy .payload)
         (gathering-room (length (c .ends)) l (roomy .area))
 
-  gathering-stored : linkOf (store c l) ≡ storeGathering (c .gathering) (linkOf l)
+  gathering-stored : linkOf (store c l) ≡ storeGathering (c .link .gathering) (linkOf l)
   unfolding store linkOf
   gathering-stored =
-      take-at (storeGathering (c .gathering) (linkOf l)) (storeEnds (c .ends) (recordsOf l)) linkRoom
+      take-at (storeGathering (c .link .gathering) (linkOf l)) (storeEnds (c .ends) (recordsOf l)) linkRoom
         gathering-stored-length
 
   ends-stored : recordsOf (store c l) ≡ storeEnds (c .ends) (recordsOf l)
   unfolding store recordsOf
   ends-stored =
-      drop-at (storeGathering (c .gathering) (linkOf l)) (storeEnds (c .ends) (recordsOf l)) linkRoom
+      drop-at (storeGathering (c .link .gathering) (linkOf l)) (storeEnds (c .ends) (recordsOf l)) linkRoom
         gathering-stored-length
 
   pub length-store : length (store c l) ≡ length l
@@ -260,14 +264,14 @@ module _ (c : Connection) (l : List ℕ) (roomy : Roomy c l) where
   reads-stored = λ i.
       record {
         ends = (ap (endsIn (length (c .ends))) ends-stored ∙ ends-back (c .ends) (recordsOf l) records-fit) i;
-        gathering = (ap gatheringIn gathering-stored ∙ gathering-back (c .gathering) (linkOf l)) i
+        link = record { gathering = (ap gatheringIn gathering-stored ∙ gathering-back (c .link .gathering) (linkOf l)) i }
       }
 
   -- and what is stored is never refused for its octets
   pub stored-octets-right : (gatheringOctetsRight (linkOf (store c l)) ≡ true)
       × (recordsRight (length (c .ends)) (recordsOf (store c l)) ≡ true)
   stored-octets-right =
-      (rw gathering-stored (gathering-right (c .gathering) (linkOf l) (roomy .payload)),
+      (rw gathering-stored (gathering-right (c .link .gathering) (linkOf l) (roomy .payload)),
         rw ends-stored (ends-right (c .ends) (recordsOf l) records-fit))
 
   -- the count is that of the endpoints
@@ -398,8 +402,8 @@ module _ (r : List ℕ) (long : length r ≡ recordRoom) (right : recordRight r 
   config-room : headRoom + getD r 7 0 ≤ length r
   config-room = let short = config-right r right in omega arith
 
-  pub head-kept : headOf (endpointIn r) ≡ take headRoom r
-  unfolding headOf endpointIn
+  pub head-kept : headOctets (headIn r) (length (configIn r)) ≡ take headRoom r
+  unfolding headOctets headIn configIn
   head-kept =
       rw (state-kept _ (state-right r right), channel-kept _ (channel-right r right),
           body-length headRoom (getD r 7 0) r config-room)
@@ -409,8 +413,8 @@ module _ (r : List ℕ) (long : length r ≡ recordRoom) (right : recordRight r 
           ∙ sym (take-add 8 8 r))
 
   pub end-kept : storeEnd (endpointIn r) r ≡ r
-  unfolding storeEnd endpointIn
-  end-kept = body-kept headRoom (headOf (endpointIn r)) (getD r 7 0) r head-kept config-room
+  unfolding storeEnd endpointIn configIn
+  end-kept = body-kept headRoom (headOctets (headIn r) (length (configIn r))) (getD r 7 0) r head-kept config-room
 
 -- the payload's length, as its two octets say
 abbrev payloadLength : List ℕ → ℕ
@@ -486,7 +490,7 @@ store-read n l count area gathering records octets =
 -- ---- What has room
 
 pub read-config : (r : List ℕ) → recordRight r ≡ true → length (endpointIn r .config) ≤ 64
-unfolding endpointIn
+unfolding endpointIn configIn
 read-config r right = omega (arith, config-right r right, length-take (getD r 7 0) (drop headRoom r))
 
 pub read-short : (n : ℕ) (l : List ℕ) → recordsRight n l ≡ true → shortConfigs (endsIn n l) ≡ true

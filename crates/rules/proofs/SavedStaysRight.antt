@@ -45,7 +45,7 @@ module _ (book : Book) (c : Connection) (l : List ℕ) (right : RightBook book) 
       record {
         area = rw same-count area;
         configs = config-short book (c .ends) (right .entries) (legal-ends book c h .every);
-        payload = payload-fits (c .gathering) (legal-gathering book c h)
+        payload = payload-fits (c .link .gathering) (legal-gathering book c h)
       }
 
   pub stored-right : savedRight book (store c l) ≡ true

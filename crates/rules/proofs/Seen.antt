@@ -24,8 +24,8 @@ use Rattle.rules.proofs.Moves.{unmoved}
 use Rattle.rules.proofs.View.{view-step}
 
 -- An endpoint that is idle after any calls has no configuration, no far SEID, no delay and no channel, whatever made it idle.
-idle-at : (book : Book) (ends : Ends) → legalEnds book ends ≡ true → (i : ℕ) → endAt ends i .state ≡ Idle
-  → endAt ends i ≡ idle (endAt ends i .seid)
+idle-at : (book : Book) (ends : Ends) → legalEnds book ends ≡ true → (i : ℕ) → endAt ends i .head .state ≡ Idle
+  → endAt ends i ≡ idle (endAt ends i .head .seid)
 unfolding legalEnds endAt idle
 idle-at [] [] lawful i e = refl
 idle-at (n ∷ book) [] lawful i e = refl
@@ -34,7 +34,8 @@ idle-at (n ∷ book) (x ∷ ends) lawful zero e = idle-forgets n x (and-l (legal
 idle-at (n ∷ book) (x ∷ ends) lawful (suc i) e = idle-at book ends (and-r (legalEnd n x) (legalEnds book ends) lawful) i e
 
 pub idle-after : (b saved : List ℕ) → bookNumber b ≡ 0 → savedRight (bookOf b) saved ≡ true → (calls : List Call) (i : ℕ)
-  → let e = endAt (connectionIn (length (bookOf b)) (after b saved calls) .ends) i in e .state ≡ Idle → e ≡ idle (e .seid)
+  → let e = endAt (connectionIn (length (bookOf b)) (after b saved calls) .ends) i in
+    e .head .state ≡ Idle → e ≡ idle (e .head .seid)
 idle-after b saved ok right calls =
     let book = bookOf b in
     let c = connectionIn (length book) (after b saved calls) in
@@ -55,11 +56,12 @@ unfolding turnOf shiftsIn
 turn-unmoved book ends g none t h = refl
 turn-unmoved book ends g (some m) t h = unmoved book ends m t (type-of m (answer book ends m .reply) h)
 
-takes-unmoved : (book : Book) (size : ℕ) (c : Connection) (p : List ℕ) → shiftsIn (gather size (c .gathering) p .done) ≡ false
+takes-unmoved : (book : Book) (size : ℕ) (c : Connection) (p : List ℕ)
+  → shiftsIn (gather size (c .link .gathering) p .done) ≡ false
   → (takes book size c p .told .type ≡ 2 → ⊥) → takes book size c p .connection .ends ≡ c .ends
 unfolding takes
 takes-unmoved book size c p =
-    turn-unmoved book (c .ends) (gather size (c .gathering) p .gathering) (gather size (c .gathering) p .done)
+    turn-unmoved book (c .ends) (gather size (c .link .gathering) p .gathering) (gather size (c .link .gathering) p .done)
 
 -- the message type in an answer
 typeIn : Answer → ℕ
@@ -81,14 +83,14 @@ module _ (b : List ℕ) (size : ℕ) (saved p reply : List ℕ) (ok : bookNumber
   step = view-step b ok saved start (record { right = right; shows = refl }) (packet size p reply)
 
   -- A packet that completes no Start and no Suspend and is not answered with an accept moves no endpoint.
-  packet-stays : Told? (eqb (packetNumber size reply) 0) → shiftsIn (gather size (start .gathering) p .done) ≡ false
+  packet-stays : Told? (eqb (packetNumber size reply) 0) → shiftsIn (gather size (start .link .gathering) p .done) ≡ false
     → (packetCall b size saved p reply .told .type ≡ 2 → ⊥) → goes (bookOf b) start (packet size p reply) .ends ≡ start .ends
   unfolding goes says call answered typeIn
   packet-stays (failed refused) t h = rw refused
   packet-stays (passed taken) t h =
       rw taken (takes-unmoved (bookOf b) size start p t (λ e. h (ap typeIn (step .answer) ∙ rw taken e)))
 
-  pub packet-unmoved : shiftsIn (gather size (connectionIn (length (bookOf b)) saved .gathering) p .done) ≡ false
+  pub packet-unmoved : shiftsIn (gather size (connectionIn (length (bookOf b)) saved .link .gathering) p .done) ≡ false
     → (packetCall b size saved p reply .told .type ≡ 2 → ⊥)
     → connectionIn (length (bookOf b)) (packetCall b size saved p reply .saved) .ends
       ≡ connectionIn (length (bookOf b)) saved .ends

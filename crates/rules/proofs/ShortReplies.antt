@@ -50,7 +50,7 @@ entry-at (here {n} {book}) r = and-l (entryRight n) (each-of entryRight book) r
 entry-at (there {m} {book = book} a) r = entry-at a (and-r (entryRight m) (each-of entryRight book) r)
 
 module _ (n : Entry) (e : Endpoint) (r : entryRight n ≡ true) (h : legalEnd n e ≡ true) where
-  config-told : Told? (isIdle (e .state)) → length (e .config) ≤ 64
+  config-told : Told? (isIdle (e .head .state)) → length (e .config) ≤ 64
   unfolding keepsNothing
   config-told (passed i) =
       let nothing = idle-keeps n e h i in
@@ -59,7 +59,7 @@ module _ (n : Entry) (e : Endpoint) (r : entryRight n ≡ true) (h : legalEnd n 
       le-trans (could-short (n .caps) (e .config) (keeps-config n e (busy-keeps n e h b))) (caps-short n r)
 
   pub end-short : length (e .config) ≤ 64
-  end-short = config-told (told (isIdle (e .state)))
+  end-short = config-told (told (isIdle (e .head .state)))
 
 pub config-short : (book : Book) (ends : Ends) → each-of entryRight book ≡ true → legalEnds book ends ≡ true
     → shortConfigs ends ≡ true
@@ -217,5 +217,5 @@ pub reply-short : (book : Book) (size : ℕ) (c : Connection) (p : List ℕ) →
     → length (takes book size c p .payload) ≤ 64
 unfolding takes
 reply-short book size c p right h =
-    let s = gather size (c .gathering) p in
+    let s = gather size (c .link .gathering) p in
     turn-of-short book (c .ends) right (legal-ends book c h .every) (s .gathering) (s .done)

@@ -15,7 +15,7 @@ use Rattle.rules.specs.Packets.{Message, Gathering, gather}
 use Rattle.rules.specs.Endpoints.{Endpoint, Ends, Connection, idle, freshEnds, freshConnection, isAbsent, isAwaited, isUp}
 use Rattle.rules.specs.Endpoints.{isIdle, isReported, channelRight, keepsNothing, legalEnd, legalEnds, awaiting}
 use Rattle.rules.specs.Endpoints.{legalGathering, legal, withChannel, forgotten, endAt, Moved, upIn, withEnds, downAt}
-use Rattle.rules.specs.Endpoints.{happens}
+use Rattle.rules.specs.Endpoints.{happens, movedBy, freshLink}
 use Rattle.rules.specs.Host.{turnOf, takes}
 use Rattle.rules.specs.declared.State.the-variants.{Idle}
 use Rattle.rules.specs.declared.Channel.{Channel}
@@ -38,11 +38,11 @@ module _ (book : Book) (c : Connection) where
   unfolding legal
   legal-ends h = record { every = search (and-l, and-r); one = search (and-l, and-r) }
 
-  pub legal-gathering : legal book c ≡ true → legalGathering (c .gathering) ≡ true
+  pub legal-gathering : legal book c ≡ true → legalGathering (c .link .gathering) ≡ true
   unfolding legal
   legal-gathering h = search (and-l, and-r)
 
-  pub both-legal : LegalEnds book (c .ends) → legalGathering (c .gathering) ≡ true → legal book c ≡ true
+  pub both-legal : LegalEnds book (c .ends) → legalGathering (c .link .gathering) ≡ true → legal book c ≡ true
   unfolding legal
   both-legal h g = rw (h .every, h .one, g)
 
@@ -70,16 +70,16 @@ fresh-legal book =
 turn-of-legal : (book : Book) (ends : Ends) (g : Option Gathering) (done : Option Message) → LegalEnds book ends
     → legalGathering g ≡ true → legal book (turnOf book ends g done .connection) ≡ true
 unfolding turnOf
-turn-of-legal book ends g none h l = both-legal book (record { ends = ends; gathering = g }) h l
+turn-of-legal book ends g none h l = both-legal book (record { ends = ends; link = record { gathering = g } }) h l
 turn-of-legal book ends g (some m) h l = both-legal book _ (answer-legal book ends h m) l
 
 pub takes-legal : (book : Book) (size : ℕ) (c : Connection) (p : List ℕ) → legal book c ≡ true
     → legal book (takes book size c p .connection) ≡ true
 unfolding takes
 takes-legal book size c p h =
-    let s = gather size (c .gathering) p in
+    let s = gather size (c .link .gathering) p in
     turn-of-legal book (c .ends) (s .gathering) (s .done) (legal-ends book c h)
-      (gather-right size (c .gathering) p (legal-gathering book c h) .gathering)
+      (gather-right size (c .link .gathering) p (legal-gathering book c h) .gathering)
 
 -- ---- The link events
 
@@ -91,16 +91,18 @@ up-legal [] (e ∷ ends) h = clash refl (sym h)
 up-legal (n ∷ book) (e ∷ ends) h =
     let first = and-l (legalEnd n e) (legalEnds book ends) h in
     let rest = and-r (legalEnd n e) (legalEnds book ends) h in
-    if-arms (λ es. legalEnds (n ∷ book) es ≡ true) (isAwaited (e .channel)) (withChannel Up e ∷ ends) (e ∷ upIn ends)
-      (λ a. and-both (legalEnd n (withChannel Up e)) (legalEnds book ends) (came-up-legal n e first a) rest)
+    if-arms (λ es. legalEnds (n ∷ book) es ≡ true) (isAwaited (e .head .channel)) (movedBy (withChannel Up) e ∷ ends)
+      (e ∷ upIn ends)
+      (λ a. and-both (legalEnd n (movedBy (withChannel Up) e)) (legalEnds book ends) (came-up-legal n e first a) rest)
       (λ f. and-both (legalEnd n e) (legalEnds book (upIn ends)) first (up-legal book ends rest))
 
 up-awaits : (ends : Ends) → awaiting (upIn ends) ≤ awaiting ends
-unfolding upIn awaiting withChannel isAwaited
+unfolding upIn awaiting movedBy isAwaited
 up-awaits [] = omega arith
 up-awaits (e ∷ ends) =
     let rest = up-awaits ends in
-    if-arms (λ es. awaiting es ≤ awaiting (e ∷ ends)) (isAwaited (e .channel)) (withChannel Up e ∷ ends) (e ∷ upIn ends)
+    if-arms (λ es. awaiting es ≤ awaiting (e ∷ ends)) (isAwaited (e .head .channel)) (movedBy (withChannel Up) e ∷ ends)
+      (e ∷ upIn ends)
       (λ a. omega arith) (λ f. omega arith)
 
 lost-legal : (book : Book) (ends : Ends) → legalEnds book ends ≡ true → legalEnds book (map forgotten ends) ≡ true
@@ -130,7 +132,7 @@ module _ (book : Book) (c : Connection) (h : legal book c ≡ true) where
       let ends = c .ends in
       let e = endAt ends i in
       let l = legal-ends book c h in
-      if-arms (λ (m : Moved). legal book (m .connection) ≡ true) (isUp (e .channel)) _ _
+      if-arms (λ (m : Moved). legal book (m .connection) ≡ true) (isUp (e .head .channel)) _ _
         (λ u. with-ends-legal (set ends i (forgotten e))
           (put-legal book ends l i n (forgotten e) (k i n refl) (forgotten-legal n e (legal-at (k i n refl) ends (l .every)))
             (omega arith)))
@@ -147,7 +149,7 @@ module _ (book : Book) (c : Connection) (h : legal book c ≡ true) where
           (record { every = up-legal book (c .ends) (l .every); one = le-leb (awaiting (upIn (c .ends))) 1 (omega arith) }))
   happens-legal (Down s) = down-legal (find s book) (λ i n e. find-known s book i n e .place)
   happens-legal Lost =
-      both-legal book (record { ends = map forgotten (c .ends); gathering = none })
+      both-legal book (record { ends = map forgotten (c .ends); link = freshLink })
         (record { every = lost-legal book (c .ends) (legal-ends book c h .every); one = rw (lost-awaits (c .ends)) refl }) refl
 
 -- ---- Idle endpoints are all alike
@@ -168,20 +170,17 @@ unfolding isEmpty
 empty-is [] h = refl
 empty-is (x ∷ l) h = clash h refl
 
-pub idle-forgets : (n : Entry) (e : Endpoint) → legalEnd n e ≡ true → e .state ≡ Idle → e ≡ idle (e .seid)
+pub idle-forgets : (n : Entry) (e : Endpoint) → legalEnd n e ≡ true → e .head .state ≡ Idle → e ≡ idle (e .head .seid)
 unfolding idle keepsNothing channelRight isIdle
 idle-forgets n e h i =
     let nothing = idle-keeps n e h (rw i refl) in
-    let channel = absent-is (e .channel) (rw i at (legal-channel n e h)) in
-    let far = eqb-true (e .far .0) 0 (search (and-l, and-r)) in
+    let channel = absent-is (e .head .channel) (rw i at (legal-channel n e h)) in
+    let far = eqb-true (e .head .far .0) 0 (search (and-l, and-r)) in
     let config = empty-is (e .config) (search (and-l, and-r)) in
-    let delay = unreported-is (e .delay) (search (and-l, and-r)) in
+    let delay = unreported-is (e .head .delay) (search (and-l, and-r)) in
     λ k.
       record {
-        seid = e .seid;
-        state = i k;
-        channel = channel k;
-        far = record { 0 = far k };
-        delay = delay k;
+        head =
+          record { seid = e .head .seid; state = i k; channel = channel k; far = record { 0 = far k }; delay = delay k };
         config = config k
       }

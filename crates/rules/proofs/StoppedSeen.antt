@@ -123,7 +123,7 @@ rejected m (reject p) e = refl
 
 module _ (b : List ℕ) (size : ℕ) (saved p reply : List ℕ) (ok : bookNumber b ≡ 0)
     (right : savedRight (bookOf b) saved ≡ true) (m : Message)
-    (done : gather size (connectionIn (length (bookOf b)) saved .gathering) p .done ≡ some m) where
+    (done : gather size (connectionIn (length (bookOf b)) saved .link .gathering) p .done ≡ some m) where
   step : Stepped b saved (connectionIn (length (bookOf b)) saved) (packet size p reply)
   step = view-step b ok saved _ (record { right = right; shows = refl }) (packet size p reply)
 

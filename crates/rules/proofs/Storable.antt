@@ -10,7 +10,7 @@ use mathlib.Core.Option.{Option, none, some}
 use lib.ListN.{length, length-append}
 use lib.Dec.{eqb, eqb·suc-zero}
 use lib.Bits.{bitAnd}
-use borrow.Author.Tests.{eqb-true, eq-eqb, ne-eqb, eqb-false, not-false}
+use borrow.Author.Tests.{eqb-true, eq-eqb, ne-eqb, not-false}
 use Rattle.rules.specs.Octets.{if_then_else_, sameOctets, member, isEmpty, some-of}
 use Rattle.rules.specs.Elements.{Item, whole, short, items, element, categoryOf, lengthCode, itemCategory, isOf, has}
 use Rattle.rules.specs.Elements.{bitsWithin, codecWithin, valueWithin, offersIn, offered, isStrange, fixed, itemCode}

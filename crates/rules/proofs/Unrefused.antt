@@ -1,12 +1,13 @@
 -- A call that is not refused was given a right book and a right saved area: a chain of tests that gives 0 has failed at none of
 -- them.
-use Prim.Native.Nat.{ℕ, zero, suc}
+use Prim.Native.Nat.{ℕ, zero, suc, _≤_}
 use native.Mathlib.Omega.{arith}
 use mathlib.Core.Path.{_≡_, refl}
 use mathlib.Core.List.{List}
 use mathlib.Core.Bool.{Bool, true, false, not}
 use lib.ListN.{length}
 use lib.Dec.{ltb}
+use borrow.Author.Tests.{ltb-false}
 use Rattle.rules.specs.Octets.{if_then_else_}
 use Rattle.rules.specs.Book.{bookNumber, bookOf}
 use Rattle.rules.specs.Packets.{sizeRight}
@@ -22,10 +23,10 @@ unfolding numberOr
 none-first zero next e = (refl, e)
 none-first (suc n) next e = absurd (omega arith)
 
-none-packet : (a b c : Bool) → _≡_ {A = ℕ} (if a then 8 else if b then 9 else if c then 0 else 12) 0 → c ≡ true
+none-packet : (a b c : Bool) → _≡_ {A = ℕ} (if a then 8 else if b then 9 else if c then 0 else 12) 0 → (b ≡ false) × (c ≡ true)
 none-packet true b c e = absurd (omega arith)
 none-packet false true c e = absurd (omega arith)
-none-packet false false c e = none-saved c e
+none-packet false false c e = (refl, none-saved c e)
 
 pub record Unrefused (b saved : List ℕ) : Type 0 where
   pub book : bookNumber b ≡ 0
@@ -37,11 +38,16 @@ none-refused b saved e =
     let both = none-first (bookNumber b) _ e in
     record { book = both .0; right = none-saved (savedRight (bookOf b) saved) (both .1) }
 
-pub packet-unrefused : (b : List ℕ) (size : ℕ) (saved reply : List ℕ) → packetRefusal b size saved reply ≡ 0 → Unrefused b saved
-unfolding packetRefusal savedNumber
-packet-unrefused b size saved reply e =
-    let both = none-first (bookNumber b) _ e in
-    record {
-      book = both .0;
-      right = none-packet (not (sizeRight size)) (ltb (length reply) 64) (savedRight (bookOf b) saved) (both .1)
-    }
+module _ (b : List ℕ) (size : ℕ) (saved reply : List ℕ) (e : packetRefusal b size saved reply ≡ 0) where
+  tests : (bookNumber b ≡ 0) × (ltb (length reply) 64 ≡ false) × (savedRight (bookOf b) saved ≡ true)
+  unfolding packetRefusal savedNumber
+  tests =
+      let both = none-first (bookNumber b) _ e in
+      let passed = none-packet (not (sizeRight size)) (ltb (length reply) 64) (savedRight (bookOf b) saved) (both .1) in
+      (both .0, passed .0, passed .1)
+
+  pub packet-unrefused : Unrefused b saved
+  packet-unrefused = record { book = tests .0; right = tests .2 }
+
+  pub packet-room : 64 ≤ length reply
+  packet-room = ltb-false (length reply) 64 (tests .1)

@@ -4,7 +4,6 @@ use Prim.Native.Nat.{ℕ, _≤_}
 use mathlib.Core.Path.{_≡_, refl, sym, ap, ap₂, _∙_, subst, subst₂}
 use mathlib.Core.List.{List, [], _∷_, map}
 use mathlib.Core.Bool.{true, false}
-use mathlib.Core.Option.{none}
 use lib.ListN.{length}
 use lib.Dec.{ltb, eqb}
 use native.Mathlib.Omega.{arith}
@@ -19,7 +18,7 @@ use Rattle.rules.proofs.SavedStaysRight.{legal-roomy, stored-right, rig
 use Rattle.rules.specs.Octets.{front}
 use Rattle.rules.specs.Book.{Entry, Book, Found, unknown, known, find, bookNumber, bookOf}
 use Rattle.rules.specs.Endpoints.{Endpoint, Ends, Connection, idle, freshEnds, freshConnection, forgotten, isUp, endAt}
-use Rattle.rules.specs.Endpoints.{legalEnd, legalEnds, legal, awaiting, Moved, downAt, happens}
+use Rattle.rules.specs.Endpoints.{legalEnd, legalEnds, legal, awaiting, Moved, downAt, happens, freshLink}
 use Rattle.rules.specs.Saved.{areaFor, connectionIn, store, savedRight}
 use Rattle.rules.specs.Host.{checkCall, numberOr, savedNumber, refusalOf, packetRefusal, Kept, freshCall, nothingSaid}
 use Rattle.rules.specs.Host.{takes, packetCall, eventCall, shownAt, settingsCall, heardAt, delayCall, statusCall}
@@ -37,7 +36,7 @@ down-refused : (f : Found) (c : Connection) → eqb (downAt f c .number) 0 ≡ f
 unfolding downAt
 down-refused unknown c = λ refused. refl
 down-refused (known i n) c =
-    if-arms (λ (m : Moved). eqb (m .number) 0 ≡ false → m .connection ≡ c) (isUp (endAt (c .ends) i .channel)) _ _
+    if-arms (λ (m : Moved). eqb (m .number) 0 ≡ false → m .connection ≡ c) (isUp (endAt (c .ends) i .head .channel)) _ _
       (λ up refused. clash refl refused) (λ down refused. refl)
 
 happens-refused : (book : Book) (c : Connection) (v : Event) → eqb (happens book c v .number) 0 ≡ false
@@ -146,7 +145,7 @@ module _ (b : List ℕ) (ok : bookNumber b ≡ 0) where
 forgotten-fresh : (n : Entry) (e : Endpoint) → legalEnd n e ≡ true → forgotten e ≡ idle (n .seid)
 unfolding forgotten legalEnd
 forgotten-fresh n e lawful =
-    let same : e .seid .0 ≡ n .seid .0 = eqb-true (e .seid .0) (n .seid .0) (search (and-l, and-r)) in
+    let same : e .head .seid .0 ≡ n .seid .0 = eqb-true (e .head .seid .0) (n .seid .0) (search (and-l, and-r)) in
     λ i. idle (record { 0 = same i })
 
 lost-fresh : (book : Book) (ends : Ends) → legalEnds book ends ≡ true → map forgotten ends ≡ freshEnds book
@@ -161,7 +160,7 @@ lost-fresh (n ∷ book) (e ∷ ends) lawful =
 all-lost : (book : Book) (c : Connection) → legal book c ≡ true → happens book c Lost .connection ≡ freshConnection book
 unfolding happens freshConnection
 all-lost book c lawful =
-    ap (λ (l : Ends). record { ends = l; gathering = none }) (lost-fresh book (c .ends) (legal-ends book c lawful .every))
+    ap (λ (l : Ends). record { ends = l; link = freshLink }) (lost-fresh book (c .ends) (legal-ends book c lawful .every))
 
 -- neither call was refused with 12
 begun-long : (b area s : List ℕ) → bookNumber b ≡ 0 → freshCall b area ≡ record { number = 0; saved = s }

@@ -75,7 +75,7 @@ pub data Begins (book saved : List ℕ) : Type 0 where
 
 -- no endpoint shows a reported delay
 unfoldable pub noneReported : Ends → Bool
-noneReported ends = each-of (λ e. not (isReported (e .delay))) ends
+noneReported ends = each-of (λ e. not (isReported (e .head .delay))) ends
 
 -- ---- Behaving alike: the same calls but for what lent areas hold, the same answers but for what may differ
 

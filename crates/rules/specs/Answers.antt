@@ -1,7 +1,7 @@
 -- What the code answers, in the words of the definitions: what a command says and what the records and the reply area hold
 -- then, and what the host is told.
 use Prim.Native.Nat.{ℕ}
-use mathlib.Core.List.{List, []}
+use mathlib.Core.List.{List}
 use lib.ListN.{length}
 use Rattle.rules.specs.Octets.{front}
 use Rattle.rules.specs.Saved.{storeEnds}

@@ -9,8 +9,8 @@ use Rattle.rules.specs.Octets.{if_then_else_}
 use Rattle.rules.specs.Elements.{items, faultIn, stored, restored}
 use Rattle.rules.specs.Book.{Entry, Book, Found, unknown, known, find, shownBy02, shownBy0C}
 use Rattle.rules.specs.Packets.{Message}
-use Rattle.rules.specs.Endpoints.{Endpoint, Ends, isIdle, isUp, awaiting, takesDelay, farRight, inState, withChannel}
-use Rattle.rules.specs.Endpoints.{withDelay, withConfig, leaving, endAt}
+use Rattle.rules.specs.Endpoints.{Endpoint, Ends, isIdle, isUp, awaiting, takesDelay, farRight, inState, withDelay}
+use Rattle.rules.specs.Endpoints.{opened, settledBy, movedBy, withConfig, leaving, endAt}
 use Rattle.rules.specs.Saved.{pairIn}
 use Rattle.rules.specs.declared.OurSeid.{OurSeid}
 use Rattle.rules.specs.declared.FarSeid.{FarSeid}
@@ -19,8 +19,7 @@ use Rattle.rules.specs.declared.Fault.{Fault}
 use Rattle.rules.specs.declared.State.{State}
 use Rattle.rules.specs.declared.State.the-variants.{Idle, Configured, Open, Streaming, Closing, Aborting}
 use Rattle.rules.specs.declared.Channel.{Channel}
-use Rattle.rules.specs.declared.Channel.the-variants.{Absent, Awaited}
-use Rattle.rules.specs.declared.Delay.the-variants.{Unreported, Reported}
+use Rattle.rules.specs.declared.Delay.the-variants.{Reported}
 use Rattle.rules.specs.declared.Signal.{Signal}
 use Rattle.rules.specs.declared.Signal.the-variants.{Discover, GetCapabilities, SetConfiguration, GetConfiguration}
 use Rattle.rules.specs.declared.Signal.the-variants.{Reconfigure, OpenUp, Start, Close, Suspend, Abort, SecurityControl}
@@ -178,8 +177,8 @@ pub data Met : Type 0 where
 unfoldable pub metAt : Signal → Ends → Found → Met
 metAt signal ends unknown = refused 0x12
 metAt signal ends (known i n) =
-    let e = endAt ends i in
-    if may signal (e .state) (e .channel) then here i n else refused (wrongState signal (e .state))
+    let h = endAt ends i .head in
+    if may signal (h .state) (h .channel) then here i n else refused (wrongState signal (h .state))
 
 -- known and state, for one SEID
 unfoldable pub meets : Signal → Book → Ends → OurSeid → Met
@@ -201,7 +200,7 @@ named signal book ends p on = atMet signal ends on (preamble signal book ends p)
 -- ---- 01 Discover
 
 unfoldable pub inUse : Endpoint → ℕ
-inUse e = if isIdle (e .state) then 0 else 2
+inUse e = if isIdle (e .head .state) then 0 else 2
 
 unfoldable pub discovered : Book → Ends → List ℕ
 discovered [] ends = []
@@ -220,8 +219,7 @@ offersAt shown ends i n = stays ends (accept (shown n))
 -- ---- 03 Set Configuration: the far SEID, then the elements
 
 unfoldable pub settled : Endpoint → FarSeid → List ℕ → Endpoint
-settled e far config =
-    record { seid = e .seid; state = Configured; channel = Absent; far = far; delay = Unreported; config = config }
+settled e far config = record { head = settledBy far (e .head); config = config }
 
 unfoldable pub setAt : Ends → List ℕ → ℕ → Entry → Outcome
 setAt ends p i n =
@@ -251,14 +249,14 @@ reconfigureAt ends p i n =
 
 unfoldable pub openAt : Ends → ℕ → Entry → Outcome
 openAt ends i n =
-    if eqb (awaiting ends) 0 then moves ends i (withChannel Awaited (inState Open (endAt ends i)))
+    if eqb (awaiting ends) 0 then moves ends i (movedBy opened (endAt ends i))
     else stays ends (rejects OpenUp 0 0x31)
 
 -- ---- 07 Start and 09 Suspend: each SEID in turn, and a stop at the first failure; earlier ones stay shifted
 
 unfoldable pub shiftOne : Signal → State → OurSeid → Ends → (Ends → Outcome) → Met → Outcome
 shiftOne signal to s ends next (refused code) = stays ends (rejects signal (s .0 * 4) code)
-shiftOne signal to s ends next (here i n) = next (set ends i (inState to (endAt ends i)))
+shiftOne signal to s ends next (here i n) = next (set ends i (movedBy (inState to) (endAt ends i)))
 
 unfoldable pub shiftEach : Signal → State → Book → Ends → List ℕ → Outcome
 shiftEach signal to book ends [] = stays ends (accept [])
@@ -285,7 +283,7 @@ unfoldable pub delayAt : Ends → List ℕ → ℕ → Entry → Outcome
 delayAt ends p i n =
     let e = endAt ends i in
     if not (takesDelay n e) then stays ends (rejects DelayReport 0 0x19)
-    else moves ends i (withDelay (Reported (pairIn (getD p 1 0) (getD p 2 0))) e)
+    else moves ends i (movedBy (withDelay (Reported (pairIn (getD p 1 0) (getD p 2 0)))) e)
 
 -- ---- All commands
 

@@ -14,9 +14,10 @@ use Rattle.rules.specs.Cutting.{packetsFor, partOf, firstOctet, header, 
 use Rattle.rules.specs.Gathered.{withDone, gatherAll}
 use Rattle.rules.specs.Endpoints.{idle, freshEnds, freshConnection, isAbsent, isAwaited, isUp, isIdle, isReported}
 use Rattle.rules.specs.Endpoints.{channelRight, takesDelay, delayRight, farRight, keepsNothing, keepsSettings, legalEnd}
-use Rattle.rules.specs.Endpoints.{legalEnds, awaiting, legalGathering, legal, inState, withChannel, withDelay, withConfig}
+use Rattle.rules.specs.Endpoints.{legalEnds, awaiting, legalGathering, legal, movedBy, withConfig}
 use Rattle.rules.specs.Endpoints.{forgotten, leaving, endAt, upIn, withEnds, downAt, happens}
-use Rattle.rules.specs.Saved.{areaFor, countIn, linkOf, recordsOf, endpointIn, recordRight, headOf, storeEnd}
+use Rattle.rules.specs.Saved.{areaFor, countIn, linkOf, recordsOf, headIn, configIn, endpointIn, recordRight, headOctets}
+use Rattle.rules.specs.Saved.{storeEnd}
 use Rattle.rules.specs.Saved.{endsIn, recordsRight, storeEnds}
 use Rattle.rules.specs.Saved.{gatheringAt, gatheringIn, gatheringOctetsRight, gatheringHead, storeGathering, connectionIn}
 use Rattle.rules.specs.Saved.{store, savedRight}
@@ -40,14 +41,12 @@ unfolding between sameOctets member isEmpty some-of each-of front headed itemsPa
     gathers extended begin isNext joined goesOn taken gather gatheringRight packetsFor partOf firstOctet header countOf
     packetAt packetsFrom cutUp withDone gatherAll idle freshEnds freshConnection isAbsent isAwaited isUp isIdle isReported
     channelRight takesDelay delayRight farRight keepsNothing keepsSettings legalEnd legalEnds awaiting legalGathering
-    legal inState withChannel withDelay withConfig forgotten leaving endAt upIn withEnds downAt happens areaFor countIn
-    linkOf recordsOf endpointIn
-    recordRight headOf storeEnd endsIn recordsRight storeEnds gatheringAt gatheringIn gatheringOctetsRight gatheringHead
-    storeGathering connectionIn store savedRight signalOf stays moves rejects rejectsFault lengthRight ourIn farIn
-        isConfigured isOpen
-    isStreaming isSet may wrongState metAt meets preamble atMet named inUse discovered discover offersAt settled setAt
-    configurationAt reconfigureAt openAt shiftOne shiftEach shift leaveAt securityAt delayAt obey answer
-    checkCall numberOr savedNumber refusalOf packetRefusal freshCall
-    nothingSaid said toldOf payloadOf turnOf takes packetCall eventCall settingsOf shownAt settingsCall heard heardAt
-    delayCall standing nowhere standingAt statusCall packetsCall cutRefusal cutCall keptBy answered asked call answers after
+    legal movedBy withConfig forgotten leaving endAt upIn withEnds downAt happens areaFor countIn linkOf recordsOf headIn
+    configIn endpointIn recordRight headOctets storeEnd endsIn recordsRight storeEnds gatheringAt gatheringIn
+    gatheringOctetsRight gatheringHead storeGathering connectionIn store savedRight signalOf stays moves rejects
+    rejectsFault lengthRight ourIn farIn isConfigured isOpen isStreaming isSet may wrongState metAt meets preamble atMet
+    named inUse discovered discover offersAt settled setAt configurationAt reconfigureAt openAt shiftOne shiftEach shift
+    leaveAt securityAt delayAt obey answer checkCall numberOr savedNumber refusalOf packetRefusal freshCall nothingSaid
+    said toldOf payloadOf turnOf takes packetCall eventCall settingsOf shownAt settingsCall heard heardAt delayCall
+    standing nowhere standingAt statusCall packetsCall cutRefusal cutCall keptBy answered asked call answers after
 computed = tt

@@ -17,36 +17,44 @@ use Rattle.rules.specs.declared.Channel.{Channel}
 use Rattle.rules.specs.declared.Channel.the-variants.{Absent, Awaited, Up}
 use Rattle.rules.specs.declared.Delay.{Delay}
 use Rattle.rules.specs.declared.Delay.the-variants.{Unreported, Reported}
+use Rattle.rules.specs.declared.Head.{Head}
 use Rattle.rules.specs.declared.Event.{Event}
 use Rattle.rules.specs.declared.Event.the-variants.{Down, Lost}
 
--- One endpoint. No far SEID is 0, and no configuration is no octets.
+-- One endpoint: its head, in which no far SEID is 0, and its configuration, of which none is no octets.
 pub record Endpoint : Type 0 where
-  pub seid : OurSeid
-  pub state : State
-  pub channel : Channel
-  pub far : FarSeid
-  pub delay : Delay
+  pub head : Head
   pub config : List ℕ
 
 abbrev pub Ends : Type 0
 Ends = List Endpoint
 
--- A connection: one endpoint per entry of the book, in the book's order, and what is being gathered.
-pub record Connection : Type 0 where
-  pub ends : Ends
+-- The signalling link: what is being gathered.
+pub record Link : Type 0 where
   pub gathering : Option Gathering
 
+-- A connection: one endpoint per entry of the book, in the book's order, and the link.
+pub record Connection : Type 0 where
+  pub ends : Ends
+  pub link : Link
+
 -- Idle: no configuration, no far SEID, no reported delay and no channel.
+abbrev pub idleHead : OurSeid → Head
+idleHead s = record { seid = s; state = Idle; channel = Absent; far = record { 0 = 0 }; delay = Unreported }
+
 unfoldable pub idle : OurSeid → Endpoint
-idle s = record { seid = s; state = Idle; channel = Absent; far = record { 0 = 0 }; delay = Unreported; config = [] }
+idle s = record { head = idleHead s; config = [] }
 
 unfoldable pub freshEnds : Book → Ends
 freshEnds [] = []
 freshEnds (n ∷ book) = idle (n .seid) ∷ freshEnds book
 
+-- a link on which nothing has come yet
+abbrev pub freshLink : Link
+freshLink = record { gathering = none }
+
 unfoldable pub freshConnection : Book → Connection
-freshConnection book = record { ends = freshEnds book; gathering = none }
+freshConnection book = record { ends = freshEnds book; link = freshLink }
 
 -- ---- Legality
 
@@ -91,22 +99,22 @@ unfoldable pub takesDelay : Entry → Endpoint → Bool
 takesDelay n e = isSource (n .kind) && has 8 (items (e .config))
 
 unfoldable pub delayRight : Entry → Endpoint → Bool
-delayRight n e = not (isReported (e .delay)) || takesDelay n e
+delayRight n e = not (isReported (e .head .delay)) || takesDelay n e
 
 unfoldable pub farRight : FarSeid → Bool
 farRight s = between 1 62 (s .0)
 
 -- what an endpoint keeps while idle, and while not
 unfoldable pub keepsNothing : Endpoint → Bool
-keepsNothing e = eqb (e .far .0) 0 && isEmpty (e .config) && not (isReported (e .delay))
+keepsNothing e = eqb (e .head .far .0) 0 && isEmpty (e .config) && not (isReported (e .head .delay))
 
 unfoldable pub keepsSettings : Entry → Endpoint → Bool
-keepsSettings n e = farRight (e .far) && couldStore (items (n .caps)) (e .config) && delayRight n e
+keepsSettings n e = farRight (e .head .far) && couldStore (items (n .caps)) (e .config) && delayRight n e
 
 unfoldable pub legalEnd : Entry → Endpoint → Bool
 legalEnd n e =
-    eqb (e .seid .0) (n .seid .0) && channelRight (e .state) (e .channel)
-    && (if isIdle (e .state) then keepsNothing e else keepsSettings n e)
+    eqb (e .head .seid .0) (n .seid .0) && channelRight (e .head .state) (e .head .channel)
+    && (if isIdle (e .head .state) then keepsNothing e else keepsSettings n e)
 
 -- one record per book entry, in the book's order
 unfoldable pub legalEnds : Book → Ends → Bool
@@ -117,40 +125,48 @@ legalEnds (n ∷ book) (e ∷ ends) = legalEnd n e && legalEnds book ends
 
 unfoldable pub awaiting : Ends → ℕ
 awaiting [] = 0
-awaiting (e ∷ ends) = (if isAwaited (e .channel) then 1 else 0) + awaiting ends
+awaiting (e ∷ ends) = (if isAwaited (e .head .channel) then 1 else 0) + awaiting ends
 
 unfoldable pub legalGathering : Option Gathering → Bool
 legalGathering none = true
 legalGathering (some g) = gatheringRight g
 
 unfoldable pub legal : Book → Connection → Bool
-legal book c = legalEnds book (c .ends) && leb (awaiting (c .ends)) 1 && legalGathering (c .gathering)
+legal book c = legalEnds book (c .ends) && leb (awaiting (c .ends)) 1 && legalGathering (c .link .gathering)
 
--- ---- Moves of one endpoint
+-- ---- Moves of one endpoint. Most are its head's, which the code makes too.
 
-unfoldable pub inState : State → Endpoint → Endpoint
-inState s e =
-    record { seid = e .seid; state = s; channel = e .channel; far = e .far; delay = e .delay; config = e .config }
+abbrev pub inState : State → Head → Head
+inState s h = record { seid = h .seid; state = s; channel = h .channel; far = h .far; delay = h .delay }
 
-unfoldable pub withChannel : Channel → Endpoint → Endpoint
-withChannel c e =
-    record { seid = e .seid; state = e .state; channel = c; far = e .far; delay = e .delay; config = e .config }
+abbrev pub withChannel : Channel → Head → Head
+withChannel c h = record { seid = h .seid; state = h .state; channel = c; far = h .far; delay = h .delay }
 
-unfoldable pub withDelay : Delay → Endpoint → Endpoint
-withDelay d e =
-    record { seid = e .seid; state = e .state; channel = e .channel; far = e .far; delay = d; config = e .config }
+abbrev pub withDelay : Delay → Head → Head
+withDelay d h = record { seid = h .seid; state = h .state; channel = h .channel; far = h .far; delay = d }
+
+-- open, and the channel is awaited
+abbrev pub opened : Head → Head
+opened h = withChannel Awaited (inState Open h)
+
+-- configured by a far SEID
+abbrev pub settledBy : FarSeid → Head → Head
+settledBy far h = record { seid = h .seid; state = Configured; channel = Absent; far = far; delay = Unreported }
+
+-- the head moved, the configuration as it was
+unfoldable pub movedBy : (Head → Head) → Endpoint → Endpoint
+movedBy move e = record { head = move (e .head); config = e .config }
 
 unfoldable pub withConfig : List ℕ → Endpoint → Endpoint
-withConfig l e =
-    record { seid = e .seid; state = e .state; channel = e .channel; far = e .far; delay = e .delay; config = l }
+withConfig l e = record { head = e .head; config = l }
 
 -- Reaching idle forgets configuration, far SEID and delay.
 unfoldable pub forgotten : Endpoint → Endpoint
-forgotten e = idle (e .seid)
+forgotten e = idle (e .head .seid)
 
 -- Close and Abort: with a channel closing or aborting, without one idle.
 unfoldable pub leaving : State → Endpoint → Endpoint
-leaving s e = if isUp (e .channel) then inState s e else forgotten e
+leaving s e = if isUp (e .head .channel) then movedBy (inState s) e else forgotten e
 
 -- the endpoint at a place of the book
 unfoldable pub endAt : Ends → ℕ → Endpoint
@@ -165,16 +181,16 @@ pub record Moved : Type 0 where
 
 unfoldable pub upIn : Ends → Ends
 upIn [] = []
-upIn (e ∷ ends) = if isAwaited (e .channel) then withChannel Up e ∷ ends else e ∷ upIn ends
+upIn (e ∷ ends) = if isAwaited (e .head .channel) then movedBy (withChannel Up) e ∷ ends else e ∷ upIn ends
 
 unfoldable pub withEnds : Ends → Connection → Connection
-withEnds ends c = record { ends = ends; gathering = c .gathering }
+withEnds ends c = record { ends = ends; link = c .link }
 
 unfoldable pub downAt : Found → Connection → Moved
 downAt unknown c = record { number = 10; connection = c }
 downAt (known i n) c =
     let e = endAt (c .ends) i in
-    if isUp (e .channel) then record { number = 0; connection = withEnds (set (c .ends) i (forgotten e)) c }
+    if isUp (e .head .channel) then record { number = 0; connection = withEnds (set (c .ends) i (forgotten e)) c }
     else record { number = 10; connection = c }
 
 -- Channel up: the awaiting endpoint, else 10. Channel down for a SEID: to idle, else 10 if it has none. Link lost: all idle,
@@ -184,4 +200,4 @@ happens book c Event.Up =
     if eqb (awaiting (c .ends)) 0 then record { number = 10; connection = c }
     else record { number = 0; connection = withEnds (upIn (c .ends)) c }
 happens book c (Down s) = downAt (find s book) c
-happens book c Lost = record { number = 0; connection = record { ends = map forgotten (c .ends); gathering = none } }
+happens book c Lost = record { number = 0; connection = record { ends = map forgotten (c .ends); link = freshLink } }

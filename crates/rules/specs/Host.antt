@@ -10,12 +10,13 @@ use Rattle.rules.specs.Octets.{if_then_else_, front, isEmpty}
 use Rattle.rules.specs.Book.{Entry, Book, bookNumber, bookOf, Found, unknown, known, find}
 use Rattle.rules.specs.Packets.{Message, Gathering, gather, sizeRight, longest}
 use Rattle.rules.specs.Cutting.{avdtp, packetsFor, packetAt, countOf}
-use Rattle.rules.specs.Endpoints.{Endpoint, Ends, Connection, idle, freshConnection, endAt, happens}
+use Rattle.rules.specs.Endpoints.{Endpoint, Ends, Connection, idleHead, freshConnection, endAt, happens}
 use Rattle.rules.specs.Saved.{areaFor, connectionIn, store, savedRight}
 use Rattle.rules.specs.Commands.{Reply, silence, generalReject, accept, reject, answer}
 use Rattle.rules.specs.declared.OurSeid.{OurSeid}
 use Rattle.rules.specs.declared.Delay.{Delay}
 use Rattle.rules.specs.declared.Delay.the-variants.{Unreported, Reported}
+use Rattle.rules.specs.declared.Head.{Head}
 use Rattle.rules.specs.declared.Event.{Event}
 use Rattle.rules.specs.declared.Standing.{Standing}
 
@@ -93,18 +94,18 @@ pub record Turn : Type 0 where
 
 unfoldable pub turnOf : Book → Ends → Option Gathering → Option Message → Turn
 turnOf book ends g none =
-    record { told = nothingSaid 0; payload = []; connection = record { ends = ends; gathering = g } }
+    record { told = nothingSaid 0; payload = []; connection = record { ends = ends; link = record { gathering = g } } }
 turnOf book ends g (some m) =
     let o = answer book ends m in
     record {
       told = toldOf m (o .reply);
       payload = payloadOf (o .reply);
-      connection = record { ends = o .ends; gathering = g }
+      connection = record { ends = o .ends; link = record { gathering = g } }
     }
 
 unfoldable pub takes : Book → ℕ → Connection → List ℕ → Turn
 takes book size c packet =
-    let s = gather size (c .gathering) packet in turnOf book (c .ends) (s .gathering) (s .done)
+    let s = gather size (c .link .gathering) packet in turnOf book (c .ends) (s .gathering) (s .done)
 
 pub record Answered : Type 0 where
   pub told : Told
@@ -165,7 +166,7 @@ heard number (Reported d) = record { number = number; reported = true; tenths = 
 
 unfoldable pub heardAt : Found → Ends → Heard
 heardAt unknown ends = heard 10 Unreported
-heardAt (known i n) ends = heard 0 (endAt ends i .delay)
+heardAt (known i n) ends = heard 0 (endAt ends i .head .delay)
 
 -- a refused delay question shows unreported
 unfoldable pub delayCall : List ℕ → List ℕ → OurSeid → Heard
@@ -176,16 +177,16 @@ delayCall book saved s =
 
 -- ---- status: book, 12, 10
 
-unfoldable pub standing : ℕ → Endpoint → Standing
-standing number e = record { number = number; state = e .state; channel = e .channel; far = e .far }
+unfoldable pub standing : ℕ → Head → Standing
+standing number h = record { number = number; state = h .state; channel = h .channel; far = h .far }
 
 -- a refused status question shows idle, no channel, 0
 unfoldable pub nowhere : ℕ → Standing
-nowhere number = standing number (idle (record { 0 = 0 }))
+nowhere number = standing number (idleHead (record { 0 = 0 }))
 
 unfoldable pub standingAt : Found → Ends → Standing
 standingAt unknown ends = nowhere 10
-standingAt (known i n) ends = standing 0 (endAt ends i)
+standingAt (known i n) ends = standing 0 (endAt ends i .head)
 
 unfoldable pub statusCall : List ℕ → List ℕ → OurSeid → Standing
 statusCall book saved s =

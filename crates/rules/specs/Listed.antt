@@ -8,7 +8,6 @@ use lib.ListN.{length}
 use lib.Dec.{eqb}
 use Rattle.rules.specs.Octets.{member, isEmpty, front, between}
 use Rattle.rules.specs.Packets.{Message}
-use Rattle.rules.specs.Endpoints.{Endpoint}
 use Rattle.rules.specs.Host
 use Rattle.rules.specs.Host.{nothingSaid}
 use Rattle.rules.specs.Sessions.{Call, check, fresh, packet, event, settings, delay, packets, cut, Answer, number, told}
@@ -16,6 +15,7 @@ use Rattle.rules.specs.Sessions.{shown, heard, counted, cutOff, Done, st
 use Rattle.rules.specs.declared.OurSeid.{OurSeid}
 use Rattle.rules.specs.declared.Delay.{Delay}
 use Rattle.rules.specs.declared.Delay.the-variants.{Unreported}
+use Rattle.rules.specs.declared.Head.{Head}
 use Rattle.rules.specs.declared.Event.{Event}
 use Rattle.rules.specs.declared.Event.the-variants.{Up, Down, Lost}
 
@@ -72,7 +72,7 @@ pub data Listed (saved : List ℕ) : Call → Done → Type 0 where
     → Listed saved c (record { answer = refusedWith c n; saved = saved })
   checked : Listed saved check (record { answer = number 0; saved = saved })
   begun : (next : List ℕ) → Listed saved fresh (record { answer = number 0; saved = next })
-  -- silence: zero in all fields, and nothing written
+  -- silence: zero in all fields, and nothing written in the reply area
   silent : (size : ℕ) (p reply next : List ℕ)
     → Listed saved (packet size p reply) (record { answer = told (nothingSaid 0) reply; saved = next })
   -- a reply: label, message type, signal and length, and the payload at the front of the reply area
@@ -89,7 +89,7 @@ pub data Listed (saved : List ℕ) : Call → Done → Type 0 where
   shows : (s : OurSeid) (part : List ℕ) → isEmpty part ≡ false → length part ≤ 64
     → Listed saved (settings s) (record { answer = shown (record { number = 0; part = part }); saved = saved })
   hears : (s : OurSeid) (d : Delay) → Listed saved (delay s) (record { answer = heard (Host.heard 0 d); saved = saved })
-  tells : (s : OurSeid) (e : Endpoint) → Listed saved (status s) (record { answer = stands (Host.standing 0 e); saved = saved })
+  tells : (s : OurSeid) (h : Head) → Listed saved (status s) (record { answer = stands (Host.standing 0 h); saved = saved })
   counts : (size n k : ℕ) → k ≤ 11 → Listed saved (packets size n) (record { answer = counted k; saved = saved })
   cuts : (size : ℕ) (m : Message) (k : ℕ) (area written : List ℕ) → length written ≤ size
     → Listed saved (cut size m k area)

@@ -9,7 +9,7 @@ use lib.Dec.{eqb}
 use Rattle.rules.specs.Octets.{if_then_else_, some-of, front}
 use Rattle.rules.specs.Book.{Book, Found, unknown, known, find}
 use Rattle.rules.specs.Packets.{Message}
-use Rattle.rules.specs.Endpoints.{Endpoint, Ends, endAt, inState}
+use Rattle.rules.specs.Endpoints.{Endpoint, Ends, endAt, inState, movedBy}
 use Rattle.rules.specs.Saved.{connectionIn}
 use Rattle.rules.specs.Commands.{Reply, silence, generalReject, accept, reject, rejects, signalOf, ourIn, may, Outcome}
 use Rattle.rules.specs.Host.{Answered}
@@ -20,7 +20,7 @@ use Rattle.rules.specs.declared.Signal.{Signal}
 -- one endpoint moved to a state, and each that a payload lists, in turn
 unfoldable pub movedOne : State → Found → Ends → Ends
 movedOne to unknown ends = ends
-movedOne to (known i n) ends = set ends i (inState to (endAt ends i))
+movedOne to (known i n) ends = set ends i (movedBy (inState to) (endAt ends i))
 
 unfoldable pub movedAll : State → Book → Ends → List ℕ → Ends
 movedAll to book ends [] = ends
@@ -29,7 +29,7 @@ movedAll to book ends (o ∷ os) = movedAll to book (movedOne to (find (ourIn o)
 -- it is known and may move; and so each that a payload lists, in its turn
 unfoldable pub mayOne : Signal → Found → Ends → Bool
 mayOne signal unknown ends = false
-mayOne signal (known i n) ends = may signal (endAt ends i .state) (endAt ends i .channel)
+mayOne signal (known i n) ends = let h = endAt ends i .head in may signal (h .state) (h .channel)
 
 unfoldable pub mayAll : Signal → State → Book → Ends → List ℕ → Bool
 mayAll signal to book ends [] = true
@@ -50,7 +50,7 @@ unfoldable pub lists : ℕ → Book → List ℕ → Bool
 lists i book p = some-of (λ o. standsAt i (find (ourIn o) book)) p
 
 abbrev pub movedIf : Bool → State → Endpoint → Endpoint
-movedIf true to e = inState to e
+movedIf true to e = movedBy (inState to) e
 movedIf false to e = e
 
 -- Stopped at the first that failed: those before it might move and have moved, it might not, and the reply names it.

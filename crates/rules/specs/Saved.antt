@@ -9,20 +9,21 @@ use lib.Dec.{leb, eqb}
 use Rattle.rules.specs.Octets.{if_then_else_, sameOctets, front}
 use Rattle.rules.specs.Book.{Book}
 use Rattle.rules.specs.Packets.{Gathering, longest}
-use Rattle.rules.specs.Endpoints.{Endpoint, Ends, Connection, legal}
+use Rattle.rules.specs.Endpoints.{Endpoint, Ends, Link, Connection, legal}
 use Rattle.rules.specs.declared.State.{State}
 use Rattle.rules.specs.declared.State.the-variants.{Idle, Configured, Open, Streaming, Closing, Aborting}
 use Rattle.rules.specs.declared.Channel.{Channel}
 use Rattle.rules.specs.declared.Channel.the-variants.{Absent, Awaited, Up}
 use Rattle.rules.specs.declared.Delay.{Delay}
 use Rattle.rules.specs.declared.Delay.the-variants.{Unreported, Reported}
+use Rattle.rules.specs.declared.Head.{Head}
 
 -- ---- The layout
 --
 -- octet 0: the count, how many records there are.
 -- octets 1 to 520: the link part, which holds the gathering.
 --   0 mark (0 none, 1 there) · 1 label · 2 message type · 3 signal · 4 packet count · 5 parts received · 6, 7 payload length,
--- high   octet first · 8 to 519 room for the payload
+--   high octet first · 8 to 519 room for the payload
 -- then, for each entry of the book in its order, a record of 80 octets:
 --   0 our SEID · 1 state · 2 channel · 3 far SEID (0 none) · 4 delay mark (0 unreported, 1 reported) · 5, 6 delay, high octet
 --   first · 7 configuration length (0 none) · 8 to 15 no use yet, zero · 16 to 79 room for the configuration
@@ -103,16 +104,21 @@ delayTenths (Reported d) = d
 abbrev pub pairIn : ℕ → ℕ → ℕ
 pairIn high low = high * 256 + low
 
-unfoldable pub endpointIn : List ℕ → Endpoint
-endpointIn r =
+unfoldable pub headIn : List ℕ → Head
+headIn r =
     record {
       seid = record { 0 = getD r 0 0 };
       state = stateIn (getD r 1 0);
       channel = channelIn (getD r 2 0);
       far = record { 0 = getD r 3 0 };
-      delay = delayIn (getD r 4 0) (pairIn (getD r 5 0) (getD r 6 0));
-      config = take (getD r 7 0) (drop headRoom r)
+      delay = delayIn (getD r 4 0) (pairIn (getD r 5 0) (getD r 6 0))
     }
+
+unfoldable pub configIn : List ℕ → List ℕ
+configIn r = take (getD r 7 0) (drop headRoom r)
+
+unfoldable pub endpointIn : List ℕ → Endpoint
+endpointIn r = record { head = headIn r; config = configIn r }
 
 -- the octets of a head that have no use yet
 abbrev pub unused : List ℕ
@@ -125,13 +131,17 @@ recordRight r =
     && (eqb (getD r 4 0) 1 || (eqb (getD r 4 0) 0 && eqb (getD r 5 0) 0 && eqb (getD r 6 0) 0))
     && leb (getD r 7 0) configRoom && sameOctets (take 8 (drop 8 r)) unused
 
-unfoldable pub headOf : Endpoint → List ℕ
-headOf e =
-    e .seid .0 ∷ stateOctet (e .state) ∷ channelOctet (e .channel) ∷ e .far .0 ∷ delayMark (e .delay)
-    ∷ delayTenths (e .delay) / 256 ∷ delayTenths (e .delay) % 256 ∷ length (e .config) ∷ unused
+-- the octets of a head whose endpoint has a configuration of n octets, those with a use in front
+abbrev pub usedOctets : Head → ℕ → List ℕ
+usedOctets h n =
+    h .seid .0 ∷ stateOctet (h .state) ∷ channelOctet (h .channel) ∷ h .far .0 ∷ delayMark (h .delay)
+    ∷ delayTenths (h .delay) / 256 ∷ delayTenths (h .delay) % 256 ∷ n ∷ []
+
+unfoldable pub headOctets : Head → ℕ → List ℕ
+headOctets h n = usedOctets h n ++ unused
 
 unfoldable pub storeEnd : Endpoint → List ℕ → List ℕ
-storeEnd e r = front (headOf e ++ e .config) r
+storeEnd e r = front (headOctets (e .head) (length (e .config)) ++ e .config) r
 
 -- ---- All records
 
@@ -180,12 +190,17 @@ storeGathering (some g) l = front (gatheringHead g ++ g .message .payload) l
 
 -- ---- The connection
 
+abbrev pub linkIn : List ℕ → Link
+linkIn l = record { gathering = gatheringIn l }
+
+abbrev pub storeLink : Link → List ℕ → List ℕ
+storeLink k l = storeGathering (k .gathering) l
+
 unfoldable pub connectionIn : ℕ → List ℕ → Connection
-connectionIn n l = record { ends = endsIn n (recordsOf l); gathering = gatheringIn (linkOf l) }
+connectionIn n l = record { ends = endsIn n (recordsOf l); link = linkIn (linkOf l) }
 
 unfoldable pub store : Connection → List ℕ → List ℕ
-store c l =
-    length (c .ends) ∷ (storeGathering (c .gathering) (linkOf l) ++ storeEnds (c .ends) (recordsOf l))
+store c l = length (c .ends) ∷ (storeLink (c .link) (linkOf l) ++ storeEnds (c .ends) (recordsOf l))
 
 -- Number 12 is given where this is false: a count that is not the book's, too short an area, octets that mean nothing, or a
 -- connection that is not legal.

@@ -56,7 +56,7 @@ replyArea = replicate 64 0xEE
 
 unfoldable pub stateFound : Found → List Endpoint → State
 stateFound unknown ends = Idle
-stateFound (known i n) ends = endAt ends i .state
+stateFound (known i n) ends = endAt ends i .head .state
 
 -- The rows with what is really seen in the place of what they say, from a saved area on.
 unfoldable pub played : List ℕ → ℕ → List ℕ → List Row → List Row

@@ -28,6 +28,15 @@ pub enum Delay {
     Reported(u16),
 }
 
+// The head of an endpoint: all that is kept of it but its configuration.
+pub struct Head {
+    pub seid: OurSeid,
+    pub state: State,
+    pub channel: Channel,
+    pub far: FarSeid,
+    pub delay: Delay,
+}
+
 // A command, by its signal (001, 8.5): 01 to 0D in their order, then 00 and 0E to 3F.
 pub enum Signal {
     Discover,

@@ -7,15 +7,14 @@ use native.Mathlib.Omega.{arith}
 use lib.ListN.{length, drop, getD, set}
 use lib.Seq.{drop-drop}
 use Rattle.rules.specs.Saved.{stateIn, stateOctet, channelIn, channelOctet, delayIn, delayMark, delayTenths, pairIn}
-use Rattle.rules.specs.Saved.{headRoom, unused}
+use Rattle.rules.specs.Saved.{headRoom, unused, headIn, usedOctets, headOctets}
 use Rattle.octets.specs.Patch.{patch}
 use Rattle.rules.specs.declared.State.{State}
 use Rattle.rules.specs.declared.State.the-variants.{Idle}
 use Rattle.rules.specs.declared.Channel.{Channel}
 use Rattle.rules.specs.declared.Delay.{Delay}
 use Rattle.rules.specs.declared.Channel.the-variants.{Absent}
-use Rattle.saved.specs.Records.{loaded, usedOctets, headOctets}
-use Rattle.saved.specs.declared.records.Endpoint.{Endpoint as Head}
+use Rattle.rules.specs.declared.Head.{Head}
 
 -- octets that are no state and no channel
 pub no-state : (n : ℕ) → (n ≡ 1 → ⊥) → (n ≡ 2 → ⊥) → (n ≡ 3 → ⊥) → (n ≡ 4 → ⊥) → (n ≡ 5 → ⊥) → Idle ≡ stateIn n
@@ -52,26 +51,25 @@ pub loaded-by : (l : List ℕ) (s : State) (c : Channel) (d : Delay) → s ≡ s
   → d ≡ delayIn (getD l 4 0) (pairIn (getD l 5 0) (getD l 6 0))
   → _≡_ {A = Head}
       (record {
-         seid = record { 0 = getD l 0 0 }; state = s; channel = c; far = record { 0 = getD l 3 0 }; delay = d;
-         length = getD l 7 0
+         seid = record { 0 = getD l 0 0 }; state = s; channel = c; far = record { 0 = getD l 3 0 }; delay = d
        })
-      (loaded l)
-unfolding loaded
+      (headIn l)
+unfolding headIn
 loaded-by l s c d p q r =
     λ i. record {
-      seid = record { 0 = getD l 0 0 }; state = p i; channel = q i; far = record { 0 = getD l 3 0 }; delay = r i;
-      length = getD l 7 0
+      seid = record { 0 = getD l 0 0 }; state = p i; channel = q i; far = record { 0 = getD l 3 0 }; delay = r i
     }
 
-pub put-by : (l : List ℕ) (e : Head) (s c m t : ℕ) → headRoom ≤ length l → s ≡ stateOctet (e .state)
-  → c ≡ channelOctet (e .channel) → m ≡ delayMark (e .delay) → t ≡ delayTenths (e .delay)
-  → set (set (set (set (set (set (set (set l 0 (e .seid .0)) 1 s) 2 c) 3 (e .far .0)) 4 m) 5 (t / 256)) 6 (t % 256)) 7 (e .length)
-    ≡ usedOctets e ++ drop 8 l
-put-by l e s c m t room p q r u =
-    eight-set l (e .seid .0) s c (e .far .0) m (t / 256) (t % 256) (e .length) (omega arith)
-    ∙ (λ i. (e .seid .0 ∷ p i ∷ q i ∷ e .far .0 ∷ r i ∷ u i / 256 ∷ u i % 256 ∷ e .length ∷ []) ++ drop 8 l)
+pub put-by : (l : List ℕ) (h : Head) (n s c m t : ℕ) → headRoom ≤ length l → s ≡ stateOctet (h .state)
+  → c ≡ channelOctet (h .channel) → m ≡ delayMark (h .delay) → t ≡ delayTenths (h .delay)
+  → set (set (set (set (set (set (set (set l 0 (h .seid .0)) 1 s) 2 c) 3 (h .far .0)) 4 m) 5 (t / 256)) 6 (t % 256)) 7 n
+    ≡ usedOctets h n ++ drop 8 l
+put-by l h n s c m t room p q r u =
+    eight-set l (h .seid .0) s c (h .far .0) m (t / 256) (t % 256) n (omega arith)
+    ∙ (λ i. (h .seid .0 ∷ p i ∷ q i ∷ h .far .0 ∷ r i ∷ u i / 256 ∷ u i % 256 ∷ n ∷ []) ++ drop 8 l)
 
 -- the octets without a use behind those with one
-pub unused-behind : (l m : List ℕ) (e : Head) → m ≡ usedOctets e ++ drop 8 l → patch 8 unused m ≡ headOctets e ++ drop headRoom l
+pub unused-behind : (l m : List ℕ) (h : Head) (n : ℕ) → m ≡ usedOctets h n ++ drop 8 l
+  → patch 8 unused m ≡ headOctets h n ++ drop headRoom l
 unfolding headOctets patch
-unused-behind l m e same = ap (patch 8 unused) same ∙ ap (λ (x : List ℕ). headOctets e ++ x) (drop-drop 8 8 l)
+unused-behind l m h n same = ap (patch 8 unused) same ∙ ap (λ (x : List ℕ). headOctets h n ++ x) (drop-drop 8 8 l)

@@ -1,7 +1,7 @@
 -- What is written at one record's place is what storing the endpoints with that one changed writes.
-use Prim.Native.Nat.{ℕ, zero, suc, _+_, _*_, _-_, _/_, _%_, _≤_, _<_, zero-le}
+use Prim.Native.Nat.{ℕ, zero, suc, _+_, _*_, _-_, _≤_, _<_, zero-le}
 use mathlib.Core.Path.{_≡_, refl, sym, ap, ap₂, _∙_, subst}
-use mathlib.Core.List.{List, [], _∷_, _++_, append-assoc}
+use mathlib.Core.List.{List, [], _++_, append-assoc}
 use mathlib.Core.Bool.{true}
 use native.Mathlib.Nat.{mul-le-mul-right}
 use native.Mathlib.Omega.{arith}
@@ -11,24 +11,17 @@ use lib.ListN.{length, take, drop, getD, set, length-append, take-append-drop}
 use lib.Seq.{drop-drop}
 use Rattle.rules.specs.Octets.{front}
 use Rattle.rules.specs.Endpoints.{endAt}
-use Rattle.rules.specs.Saved.{recordRoom, endpointIn, headOf, storeEnd, endsIn, storeEnds, stateOctet, channelOctet, delayMark}
-use Rattle.rules.specs.Saved.{delayTenths, recordRight, recordsRight, headRoom, configRoom, unused}
+use Rattle.rules.specs.Saved.{recordRoom, headRoom, configRoom, headIn, endpointIn, headOctets, storeEnd, endsIn, storeEnds}
+use Rattle.rules.specs.Saved.{recordRight, recordsRight}
 use Rattle.rules.proofs.OneRecord.{end-at, store-one}
 use Rattle.octets.specs.Patch.{patch, part}
 use Rattle.octets.proofs.Patches.{lent-front}
 use Rattle.rules.proofs.Tests.{and-l, and-r}
 use Rattle.rules.proofs.SavedReads.{drop-first}
-use Rattle.saved.specs.Records.{loaded, endpointOf, headOctets, recordAt, configSizeAt, configAt}
+use Rattle.saved.specs.Records.{recordAt, configSizeAt, configAt}
 use Rattle.saved.specs.Held.{Held}
-use Rattle.saved.specs.declared.records.Endpoint.{Endpoint as Head}
+use Rattle.rules.specs.declared.Head.{Head}
 use Rattle.saved.proofs.Configs.{config-length, config-there}
-
--- the octets of an endpoint's head, as the definitions and as the code have them
-head-same : (h : Head) (c : List ℕ) → length c ≡ h .length → headOf (endpointOf h c) ≡ headOctets h
-unfolding headOf endpointOf headOctets
-head-same h c e =
-    ap (λ (n : ℕ). h .seid .0 ∷ stateOctet (h .state) ∷ channelOctet (h .channel) ∷ h .far .0 ∷ delayMark (h .delay)
-       ∷ delayTenths (h .delay) / 256 ∷ delayTenths (h .delay) % 256 ∷ n ∷ unused) e
 
 -- a write within one record
 within-record : (i : ℕ) (s l : List ℕ) → length s ≤ recordRoom
@@ -37,23 +30,23 @@ within-record i s l h =
     ap (λ (x : List ℕ). take (i * recordRoom) l ++ (front s (recordAt i l) ++ x)) (sym (drop-drop recordRoom (i * recordRoom) l))
     ∙ lent-front (i * recordRoom) recordRoom s l h
 
-head-and-config : (h : Head) (c : List ℕ) → length c ≤ configRoom → length (headOctets h ++ c) ≤ recordRoom
+head-and-config : (h : Head) (c : List ℕ) → length c ≤ configRoom → length (headOctets h (length c) ++ c) ≤ recordRoom
 unfolding headOctets
 head-and-config h c e = omega arith
 
 -- the head and the configuration of one endpoint written
-pub stored-one : (n i : ℕ) (l : List ℕ) (h : Head) (c : List ℕ) → i < n → Held n l → length c ≡ h .length → length c ≤ configRoom
-  → patch (i * recordRoom) (headOctets h ++ c) l ≡ storeEnds (set (endsIn n l) i (endpointOf h c)) l
-unfolding storeEnd endpointOf
-stored-one n i l h c inside held e short =
-    sym (store-one n i l (endpointOf h c) inside (held .room) (held .right) (held .octets)
-      ∙ ap (λ (s : List ℕ). take (i * recordRoom) l ++ (front (s ++ c) (recordAt i l) ++ drop (i * recordRoom + recordRoom) l))
-          (head-same h c e)
-      ∙ within-record i (headOctets h ++ c) l (head-and-config h c short))
+pub stored-one : (n i : ℕ) (l : List ℕ) (h : Head) (c : List ℕ) → i < n → Held n l → length c ≤ configRoom
+  → patch (i * recordRoom) (headOctets h (length c) ++ c) l
+    ≡ storeEnds (set (endsIn n l) i (record { head = h; config = c })) l
+unfolding storeEnd
+stored-one n i l h c inside held short =
+    sym (store-one n i l (record { head = h; config = c }) inside (held .room) (held .right) (held .octets)
+      ∙ within-record i (headOctets h (length c) ++ c) l (head-and-config h c short))
 
 -- the endpoint at a place, as the code has it
-pub loaded-one : (n i : ℕ) (l : List ℕ) → i < n → endAt (endsIn n l) i ≡ endpointOf (loaded (recordAt i l)) (configAt i l)
-unfolding endpointIn endpointOf loaded configAt
+pub loaded-one : (n i : ℕ) (l : List ℕ) → i < n
+  → endAt (endsIn n l) i ≡ record { head = headIn (recordAt i l); config = configAt i l }
+unfolding endpointIn
 loaded-one n i l inside = end-at n i l inside
 
 lengths-sum : (at : ℕ) (s c : List ℕ) → at + length s + length c ≡ at + length (s ++ c)
@@ -73,18 +66,19 @@ head-alone at s c l e =
 span : (i : ℕ) → i * 80 + 80 - i * 80 ≡ 80
 span i = omega arith
 
-pub get-by : (i : ℕ) (l : List ℕ) (h : Head) → h ≡ loaded (take (i * 80 + 80 - i * 80) (drop (i * 80) l)) → h
-    ≡ loaded (recordAt i l)
-get-by i l h e = e ∙ ap (λ (k : ℕ). loaded (take k (drop (i * 80) l))) (span i)
+pub get-by : (i : ℕ) (l : List ℕ) (h : Head) → h ≡ headIn (take (i * 80 + 80 - i * 80) (drop (i * 80) l)) → h
+    ≡ headIn (recordAt i l)
+get-by i l h e = e ∙ ap (λ (k : ℕ). headIn (take k (drop (i * 80) l))) (span i)
 
-pub set-by : (i : ℕ) (l m : List ℕ) (e : Head) → m ≡ headOctets e ++ drop headRoom (take (i * 80 + 80 - i * 80) (drop (i * 80) l))
-  → take (i * 80) l ++ (m ++ drop (i * 80 + 80 - i * 80) (drop (i * 80) l)) ≡ patch (i * recordRoom) (headOctets e) l
+pub set-by : (i : ℕ) (l m : List ℕ) (h : Head) (n : ℕ)
+  → m ≡ headOctets h n ++ drop headRoom (take (i * 80 + 80 - i * 80) (drop (i * 80) l))
+  → take (i * 80) l ++ (m ++ drop (i * 80 + 80 - i * 80) (drop (i * 80) l)) ≡ patch (i * recordRoom) (headOctets h n) l
 unfolding headOctets front
-set-by i l m e q =
+set-by i l m h n q =
     ap (λ (x : List ℕ). take (i * 80) l ++ (x ++ drop (i * 80 + 80 - i * 80) (drop (i * 80) l))) q
     ∙ ap (λ (x : ℕ). take (i * 80) l ++
-        ((headOctets e ++ drop headRoom (take x (drop (i * 80) l))) ++ drop x (drop (i * 80) l))) (span i)
-    ∙ lent-front (i * 80) 80 (headOctets e) l (lit≤ tt)
+        ((headOctets h n ++ drop headRoom (take x (drop (i * 80) l))) ++ drop x (drop (i * 80) l))) (span i)
+    ∙ lent-front (i * 80) 80 (headOctets h n) l (lit≤ tt)
 
 -- ---- The head alone is written: the configuration that stands there stays, or there is none any more
 
@@ -110,17 +104,18 @@ module _ (n i : ℕ) (l : List ℕ) (inside : i < n) (held : Held n l) where
   pub length-told : configSizeAt i l ≤ configRoom
   length-told = length-right (recordAt i l) (record-right n i l inside (held .right))
 
-  pub head-moved : (h : Head) → h .length ≡ loaded (recordAt i l) .length
-    → patch (i * recordRoom) (headOctets h) l ≡ storeEnds (set (endsIn n l) i (endpointOf h (configAt i l))) l
-  unfolding headOctets part loaded
-  head-moved h e =
+  pub head-moved : (h : Head)
+    → patch (i * recordRoom) (headOctets h (configSizeAt i l)) l
+      ≡ storeEnds (set (endsIn n l) i (record { head = h; config = configAt i l })) l
+  unfolding headOctets part
+  head-moved h =
       let size = config-length i l record-inside length-told in
       let there = config-there i l record-inside length-told in
-      head-alone (i * recordRoom) (headOctets h) (configAt i l) l
-        (there ∙ ap (λ (k : ℕ). take k (drop (i * recordRoom + headRoom) l)) (sym size))
-      ∙ stored-one n i l h (configAt i l) inside held (size ∙ sym e) (omega (arith, size, length-told))
+      ap (λ (k : ℕ). patch (i * recordRoom) (headOctets h k) l) (sym size)
+      ∙ head-alone (i * recordRoom) (headOctets h (length (configAt i l))) (configAt i l) l
+          (there ∙ ap (λ (k : ℕ). take k (drop (i * recordRoom + headRoom) l)) (sym size))
+      ∙ stored-one n i l h (configAt i l) inside held (omega (arith, size, length-told))
 
-  pub head-emptied : (h : Head) → h .length ≡ 0
-    → patch (i * recordRoom) (headOctets h) l ≡ storeEnds (set (endsIn n l) i (endpointOf h [])) l
-  head-emptied h e =
-      head-alone (i * recordRoom) (headOctets h) [] l refl ∙ stored-one n i l h [] inside held (sym e) zero-le
+  pub head-emptied : (h : Head)
+    → patch (i * recordRoom) (headOctets h 0) l ≡ storeEnds (set (endsIn n l) i (record { head = h; config = [] })) l
+  head-emptied h = head-alone (i * recordRoom) (headOctets h 0) [] l refl ∙ stored-one n i l h [] inside held zero-le

@@ -2,6 +2,7 @@
 use rules::Channel;
 use rules::Delay;
 use rules::FarSeid;
+use rules::Head;
 use rules::OurSeid;
 use rules::State;
 use rules::layout::CHANNEL;
@@ -21,19 +22,9 @@ ghost use mathlib.Core.List.{_++_};
 ghost use Prim.Native.Nat.{_+_, _*_, _≤_};
 ghost use lib.ListN.{length, drop};
 ghost use Rattle.rules.specs.Saved.{stateIn, stateOctet, channelIn, channelOctet, delayIn, delayMark, delayTenths, pairIn};
-ghost use Rattle.rules.specs.Saved.{recordRoom, headRoom, configRoom};
+ghost use Rattle.rules.specs.Saved.{recordRoom, headRoom, configRoom, headIn, usedOctets, headOctets};
 ghost use Rattle.octets.specs.Patch.{patch};
-ghost use Rattle.saved.specs.Records.{loaded, usedOctets, headOctets, recordAt, configSizeAt, configAt};
-
-// A record's head: what is there of the endpoint but the octets of its configuration, of which it has the length.
-pub struct Endpoint {
-    pub seid: OurSeid,
-    pub state: State,
-    pub channel: Channel,
-    pub far: FarSeid,
-    pub delay: Delay,
-    pub length: u8,
-}
+ghost use Rattle.saved.specs.Records.{recordAt, configSizeAt, configAt};
 
 fn state_in(octet: u8) -> State
     ensures { λ r. ⌜ r ≡ stateIn octet ⌝ }
@@ -109,67 +100,76 @@ fn delay_tenths(delay: Delay) -> u16
     }
 }
 
-pub fn load(slot: &[u8]) -> Endpoint
+pub fn load(slot: &[u8]) -> Head
     requires { ⌜ headRoom ≤ length (now slot) ⌝ }
-    ensures { λ r. ⌜ r ≡ loaded (now (slot .entry)) ⌝ }
+    ensures { λ r. ⌜ r ≡ headIn (now (slot .entry)) ⌝ }
 {
     let state = state_in(slot[STATE]);
     let channel = channel_in(slot[CHANNEL]);
     let delay = delay_in(slot[DELAY_MARK], slot[DELAY_HIGH], slot[DELAY_LOW]);
-    Endpoint {
+    Head {
         seid: OurSeid(slot[SEID]),
         state,
         channel,
         far: FarSeid(slot[FAR]),
         delay,
-        length: slot[CONFIG_LENGTH],
     }
 }
 
-// The octets of a head that have a use.
-fn put_used(slot: &mut [u8], e: Endpoint)
-    requires { ⌜ headRoom ≤ length (now slot) ⌝ }
-    ensures { λ _. ⌜ now (slot .exit) ≡ usedOctets e ++ drop 8 (now (slot .entry)) ⌝ }
+// The octets of a head that have a use, with a configuration of this length.
+fn put_used(slot: &mut [u8], h: Head, length: u8)
+    requires { ⌜ headRoom ≤ lib.ListN.length (now slot) ⌝ }
+    ensures { λ _. ⌜ now (slot .exit) ≡ usedOctets h length ++ drop 8 (now (slot .entry)) ⌝ }
 {
-    let state = e.state;
-    let channel = e.channel;
-    let delay = e.delay;
+    let state = h.state;
+    let channel = h.channel;
+    let delay = h.delay;
     let tenths = delay_tenths(delay);
-    slot[SEID] = e.seid.0;
+    slot[SEID] = h.seid.0;
     slot[STATE] = state_octet(state);
     slot[CHANNEL] = channel_octet(channel);
-    slot[FAR] = e.far.0;
+    slot[FAR] = h.far.0;
     slot[DELAY_MARK] = delay_mark(delay);
     slot[DELAY_HIGH] = (tenths / 256) as u8;
     slot[DELAY_LOW] = (tenths % 256) as u8;
-    slot[CONFIG_LENGTH] = e.length;
+    slot[CONFIG_LENGTH] = length;
 }
 
-pub fn put_head(slot: &mut [u8], e: Endpoint)
-    requires { ⌜ headRoom ≤ length (now slot) ⌝ }
-    ensures { λ _. ⌜ now (slot .exit) ≡ headOctets e ++ drop headRoom (now (slot .entry)) ⌝ }
+fn put_head(slot: &mut [u8], h: Head, length: u8)
+    requires { ⌜ headRoom ≤ lib.ListN.length (now slot) ⌝ }
+    ensures { λ _. ⌜ now (slot .exit) ≡ headOctets h length ++ drop headRoom (now (slot .entry)) ⌝ }
 {
-    put_used(slot, e);
+    put_used(slot, h, length);
     let unused = [0u8; HEAD - UNUSED];
     octets::put(slot, UNUSED, &unused);
 }
 
 // The head of record i.
-pub fn get(records: &[u8], i: usize) -> Endpoint
+pub fn get(records: &[u8], i: usize) -> Head
     requires { ⌜ (i + 1) * recordRoom ≤ length (now records) ⌝ }
-    ensures { λ r. ⌜ r ≡ loaded (recordAt i (now (records .entry))) ⌝ }
+    ensures { λ r. ⌜ r ≡ headIn (recordAt i (now (records .entry))) ⌝ }
 {
     let from = i * RECORD;
     load(&records[from..from + RECORD])
 }
 
-// Stores the head of record i; its configuration stays.
-pub fn set(records: &mut [u8], i: usize, e: Endpoint)
-    requires { ⌜ (i + 1) * recordRoom ≤ length (now records) ⌝ }
-    ensures { λ _. ⌜ now (records .exit) ≡ patch (i * recordRoom) (headOctets e) (now (records .entry)) ⌝ }
+// Stores the head of record i, with a configuration of this length.
+pub fn set(records: &mut [u8], i: usize, h: Head, length: u8)
+    requires { ⌜ (i + 1) * recordRoom ≤ lib.ListN.length (now records) ⌝ }
+    ensures { λ _. ⌜ now (records .exit) ≡ patch (i * recordRoom) (headOctets h length) (now (records .entry)) ⌝ }
 {
     let from = i * RECORD;
-    put_head(&mut records[from..from + RECORD], e);
+    put_head(&mut records[from..from + RECORD], h, length);
+}
+
+// Stores the head of record i; its configuration stays.
+pub fn set_head(records: &mut [u8], i: usize, h: Head)
+    requires { ⌜ (i + 1) * recordRoom ≤ length (now records) ⌝ }
+    ensures { λ _. ⌜ now (records .exit)
+      ≡ patch (i * recordRoom) (headOctets h (configSizeAt i (now (records .entry)))) (now (records .entry)) ⌝ }
+{
+    let length = records[i * RECORD + CONFIG_LENGTH];
+    set(records, i, h, length);
 }
 
 // The configuration of record i.

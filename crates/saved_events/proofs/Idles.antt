@@ -9,19 +9,21 @@ use lib.Dec.{lit≤}
 use lib.ListN.{length, take, drop, length-drop}
 use lib.Seq.{drop-append-add, length-take-le}
 use Rattle.rules.specs.Octets.{front}
-use Rattle.rules.specs.Endpoints.{forgotten, idle}
-use Rattle.rules.specs.Saved.{recordRoom, endpointIn, headOf, storeEnd, endsIn, storeEnds}
+use Rattle.rules.specs.Endpoints.{forgotten, idleHead, idle}
+use Rattle.rules.specs.Saved.{recordRoom, headIn, endpointIn, headOctets, storeEnd, endsIn, storeEnds}
+use Rattle.rules.specs.declared.Head.{Head}
 use Rattle.rules.proofs.SavedReads.{end-length}
 use Rattle.octets.specs.Patch.{patch}
 use Rattle.octets.proofs.Patches.{patch-past, lent-front}
-use Rattle.saved.specs.Records.{loaded, headOctets, recordAt}
-use Rattle.saved.specs.Moved.{forgottenHead}
-use Rattle.saved.specs.declared.records.Endpoint.{Endpoint as Head}
+use Rattle.saved.specs.Records.{recordAt}
 use Rattle.saved_events.specs.Events.{allIdle}
 
--- the head of an idle record, as the definitions and as the code have it
-idle-record : (r : List ℕ) → storeEnd (forgotten (endpointIn r)) r ≡ front (headOctets (forgottenHead (loaded r))) r
-unfolding storeEnd forgotten idle endpointIn headOf headOctets loaded
+-- the octets of an idle endpoint's head, with the SEID of a record
+abbrev idleOctets : List ℕ → List ℕ
+idleOctets r = headOctets (idleHead (headIn r .seid)) 0
+
+idle-record : (r : List ℕ) → storeEnd (forgotten (endpointIn r)) r ≡ front (idleOctets r) r
+unfolding storeEnd forgotten idle endpointIn headOctets
 idle-record r = refl
 
 idle-long : (r : List ℕ) → length r ≡ recordRoom → length (storeEnd (forgotten (endpointIn r)) r) ≡ recordRoom
@@ -31,16 +33,16 @@ idle-long r e = end-length (forgotten (endpointIn r)) r (lit≤ tt) e
 first-long : (i : ℕ) (l : List ℕ) → suc i * recordRoom ≤ length l → length (take recordRoom l) ≡ recordRoom
 first-long i l h = length-take-le recordRoom l (omega arith)
 
-head-fits : (h : Head) → length (headOctets h) ≤ recordRoom
+head-fits : (h : Head) → length (headOctets h 0) ≤ recordRoom
 unfolding headOctets
 head-fits h = lit≤ tt
 
 pub one-idle : (i : ℕ) (l : List ℕ) → suc i * recordRoom ≤ length l
-  → patch (i * recordRoom) (headOctets (forgottenHead (loaded (recordAt i (allIdle i l))))) (allIdle i l) ≡ allIdle (suc i) l
+  → patch (i * recordRoom) (idleOctets (recordAt i (allIdle i l))) (allIdle i l) ≡ allIdle (suc i) l
 unfolding allIdle endsIn storeEnds
 one-idle zero l h =
-    sym (lent-front 0 recordRoom (headOctets (forgottenHead (loaded (take recordRoom l)))) l
-        (head-fits (forgottenHead (loaded (take recordRoom l)))))
+    sym (lent-front 0 recordRoom (idleOctets (take recordRoom l)) l
+        (head-fits (idleHead (headIn (take recordRoom l) .seid))))
     ∙ ap (λ (x : List ℕ). x ++ drop recordRoom l) (sym (idle-record (take recordRoom l)))
 one-idle (suc i) l h =
     let x = storeEnd (forgotten (endpointIn (take recordRoom l))) (take recordRoom l) in
@@ -49,18 +51,19 @@ one-idle (suc i) l h =
     let at : suc i * recordRoom ≡ length x + i * recordRoom = omega arith in
     let behind : recordAt (suc i) (x ++ y) ≡ recordAt i y =
           ap (take recordRoom) (ap (λ (k : ℕ). drop k (x ++ y)) at ∙ drop-append-add x y (i * recordRoom)) in
-    ap₂ (λ (k : ℕ) (r : List ℕ). patch k (headOctets (forgottenHead (loaded r))) (x ++ y)) at behind
-    ∙ patch-past x y (headOctets (forgottenHead (loaded (recordAt i y)))) (i * recordRoom)
+    ap₂ (λ (k : ℕ) (r : List ℕ). patch k (idleOctets r) (x ++ y)) at behind
+    ∙ patch-past x y (idleOctets (recordAt i y)) (i * recordRoom)
     ∙ ap (λ (z : List ℕ). x ++ z) (one-idle i (drop recordRoom l) (simp length-drop (omega arith)))
 
 -- a turn, from what the calls answer
 pub idle-turn : (i : ℕ) (l l₀ m : List ℕ) (h h′ : Head) → (i + 1) * recordRoom ≤ length l₀ → l ≡ allIdle i l₀
-  → h ≡ loaded (recordAt i l) → h′ ≡ forgottenHead h → m ≡ patch (i * recordRoom) (headOctets h′) l → m ≡ allIdle (i + 1) l₀
+  → h ≡ headIn (recordAt i l) → h′ ≡ idleHead (h .seid) → m ≡ patch (i * recordRoom) (headOctets h′ 0) l
+  → m ≡ allIdle (i + 1) l₀
 idle-turn i l l₀ m h h′ room so-far got moved stored =
     let more : suc i * recordRoom ≤ length l₀ = omega arith in
-    let all : h′ ≡ forgottenHead (loaded (recordAt i (allIdle i l₀))) =
-          moved ∙ ap forgottenHead (got ∙ ap (λ (x : List ℕ). loaded (recordAt i x)) so-far) in
-    stored ∙ ap₂ (λ (x : Head) (y : List ℕ). patch (i * recordRoom) (headOctets x) y) all so-far ∙ one-idle i l₀ more
+    let all : h′ ≡ idleHead (headIn (recordAt i (allIdle i l₀)) .seid) =
+          moved ∙ ap (λ (x : Head). idleHead (x .seid)) (got ∙ ap (λ (x : List ℕ). headIn (recordAt i x)) so-far) in
+    stored ∙ ap₂ (λ (x : Head) (y : List ℕ). patch (i * recordRoom) (headOctets x 0) y) all so-far ∙ one-idle i l₀ more
     ∙ ap (λ (k : ℕ). allIdle k l₀) (sym (add-one i))
 
 pub none-idle : (l : List ℕ) → l ≡ allIdle 0 l

@@ -5,7 +5,6 @@ use saved_states::is_awaited;
 use saved_states::is_up;
 
 ghost use mathlib.Core.Path.{_≡_};
-ghost use Prim.Native.Nat.{ℕ};
 ghost use lib.ListN.{length};
 ghost use Rattle.rules.specs.Book.{bookNumber, bookOf};
 ghost use Rattle.saved.specs.Held.{Held};
@@ -22,7 +21,7 @@ pub fn up(records: &mut [u8], count: usize) -> u8
         let e = saved::records::get(records, i);
         let channel = e.channel;
         if is_awaited(channel) {
-            saved::records::set(records, i, saved_lent::turned(e, true));
+            saved::records::set_head(records, i, saved_lent::turned(e, true));
             return 0;
         }
         i += 1;
@@ -44,7 +43,7 @@ pub fn down(book: &[u8], records: &mut [u8], seid: OurSeid) -> u8
             let e = saved::records::get(records, index);
             let channel = e.channel;
             if is_up(channel) {
-                saved::records::set(records, index, saved_lent::turned(e, false));
+                saved::records::set(records, index, saved_lent::turned(e, false), 0);
                 return 0;
             }
             10
@@ -60,7 +59,8 @@ pub fn lost(records: &mut [u8], count: usize)
     let mut i = 0;
     while i < count {
         let e = saved::records::get(records, i);
-        saved::records::set(records, i, saved::moves::forgotten(e));
+        let seid = e.seid;
+        saved::records::set(records, i, saved::moves::idle(seid), 0);
         i += 1;
     }
 }

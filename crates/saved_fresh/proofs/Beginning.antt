@@ -9,23 +9,21 @@ use lib.ListN.{length, take, drop, getD, length-append, length-take, length-drop
 use lib.Seq.{take-at, drop-at}
 use Rattle.rules.specs.Octets.{front}
 use Rattle.rules.specs.Book.{Book, bookNumber, entriesIn, bookOf}
-use Rattle.rules.specs.Endpoints.{Ends, idle, freshEnds, freshConnection}
-use Rattle.rules.specs.Saved.{recordRoom, headOf, storeEnd, storeEnds}
+use Rattle.rules.specs.Endpoints.{Ends, idleHead, idle, freshEnds, freshConnection}
+use Rattle.rules.specs.Saved.{recordRoom, headOctets, storeEnd, storeEnds}
 use Rattle.rules.specs.declared.OurSeid.{OurSeid}
+use Rattle.rules.specs.declared.Head.{Head}
 use Rattle.rules.proofs.SavedReads.{front-length}
 use Rattle.octets.specs.Patch.{patch}
 use Rattle.octets.proofs.Patches.{lent-front}
 use Rattle.book.proofs.Entries.{RightEntries, right-head}
 use Rattle.book.proofs.Found.{entries-first, book-length}
-use Rattle.saved.specs.Records.{headOctets, recordAt}
-use Rattle.saved.specs.declared.records.Endpoint.{Endpoint as Head}
-use Rattle.saved_fresh.specs.Begun.{idleHead}
+use Rattle.saved.specs.Records.{recordAt}
 
 -- ---- One record
 
--- the head of an idle record, as the definitions and as the code have it
-idle-record : (s : OurSeid) (r : List ℕ) → front (headOctets (idleHead s)) r ≡ storeEnd (idle s) r
-unfolding storeEnd idle headOf headOctets
+idle-record : (s : OurSeid) (r : List ℕ) → front (headOctets (idleHead s) 0) r ≡ storeEnd (idle s) r
+unfolding storeEnd idle headOctets
 idle-record s r = refl
 
 -- the first i records as they are, and from there on the endpoints stored
@@ -74,14 +72,14 @@ none-begun b l n e =
 
 -- the head of one record is written
 pub one-begun : (n left : ℕ) (b : List ℕ) (at i : ℕ) (l m : List ℕ) (h : Head) {whole : List ℕ} → left ≡ suc n
-  → (i + 1) * recordRoom ≤ length l → h ≡ idleHead (record { 0 = getD b at 0 }) → m ≡ patch (i * recordRoom) (headOctets h) l
+  → (i + 1) * recordRoom ≤ length l → h ≡ idleHead (record { 0 = getD b at 0 }) → m ≡ patch (i * recordRoom) (headOctets h 0) l
   → begunBy left b at i l ≡ whole → begunBy n b (at + 3 + getD b (at + 2) 0) (i + 1) m ≡ whole
 unfolding headOctets storeEnds freshEnds
 one-begun n left b at i l m h e room made stored inv =
     let s : OurSeid = record { 0 = getD b at 0 } in
     let rest = freshEnds (entriesIn n (drop (at + 3 + getD b (at + 2) 0) b)) in
-    ap (storedFrom (i + 1) rest) (stored ∙ ap (λ (x : Head). patch (i * recordRoom) (headOctets x) l) made)
-    ∙ stored-behind i (headOctets (idleHead s)) l rest (lit≤ tt) room
+    ap (storedFrom (i + 1) rest) (stored ∙ ap (λ (x : Head). patch (i * recordRoom) (headOctets x 0) l) made)
+    ∙ stored-behind i (headOctets (idleHead s) 0) l rest (lit≤ tt) room
     ∙ ap (λ (x : List ℕ). take (i * recordRoom) l ++ (x ++ storeEnds rest (drop recordRoom (drop (i * recordRoom) l))))
         (idle-record s (recordAt i l))
     ∙ ap (λ (x : Book). storedFrom i (freshEnds x) l) (sym (entries-first n b at))

@@ -1,10 +1,6 @@
 // The records of a fresh connection: every endpoint of the book idle.
-use rules::Channel;
-use rules::Delay;
-use rules::FarSeid;
 use rules::OurSeid;
-use rules::State;
-use saved::records::Endpoint;
+use saved::moves::idle;
 
 ghost use mathlib.Core.Path.{_≡_};
 ghost use Prim.Native.Nat.{_*_, _≤_};
@@ -12,20 +8,6 @@ ghost use lib.ListN.{length};
 ghost use Rattle.rules.specs.Book.{bookNumber, bookOf};
 ghost use Rattle.rules.specs.Endpoints.{freshConnection};
 ghost use Rattle.rules.specs.Saved.{recordRoom, storeEnds};
-ghost use Rattle.saved_fresh.specs.Begun.{idleHead};
-
-fn begun(seid: OurSeid) -> Endpoint
-    ensures { λ r. ⌜ r ≡ idleHead seid ⌝ }
-{
-    Endpoint {
-        seid,
-        state: State::Idle,
-        channel: Channel::Absent,
-        far: FarSeid(0),
-        delay: Delay::Unreported,
-        length: 0,
-    }
-}
 
 // Writes the head of a record for each entry of the book; the octets behind the heads stay.
 pub fn begin(book: &[u8], records: &mut [u8])
@@ -37,7 +19,7 @@ pub fn begin(book: &[u8], records: &mut [u8])
     let mut at = 6;
     let mut i = 0;
     while i < entries {
-        saved::records::set(records, i, begun(OurSeid(book[at])));
+        saved::records::set(records, i, idle(OurSeid(book[at])), 0);
         at = at + 3 + book[at + 2] as usize;
         i += 1;
     }

@@ -13,12 +13,12 @@ use Rattle.rules.specs.Octets.{if_then_else_, sameOctets, isEmpty}
 use Rattle.rules.specs.Book.{Entry, Book, entriesIn, bookOf}
 use Rattle.rules.specs.Endpoints.{isReported, isIdle, isAwaited, channelRight, takesDelay, delayRight, keepsNothing}
 use Rattle.rules.specs.Endpoints.{keepsSettings, legalEnd, legalEnds, awaiting}
-use Rattle.rules.specs.Saved.{recordRoom, headRoom, configRoom, unused, channelIn, endpointIn, recordRight, endsIn, recordsRight}
+use Rattle.rules.specs.Saved.{recordRoom, headRoom, configRoom, unused, channelIn, headIn, configIn, endpointIn, recordRight, endsIn}
+use Rattle.rules.specs.Saved.{recordsRight}
 use Rattle.rules.proofs.Tests.{and-l, and-r}
 use Rattle.octets.specs.Patch.{part}
 use Rattle.book.proofs.Found.{entryBy, entries-first, book-length}
-use Rattle.saved.specs.Records.{loaded}
-use Rattle.saved.specs.declared.records.Endpoint.{Endpoint as Head}
+use Rattle.rules.specs.declared.Head.{Head}
 use Rattle.saved_legal.specs.Legal.{settingsRight, usedRight, fourZero, awaitsIn, recordLegal, recordsLegal}
 
 -- ---- One record
@@ -94,16 +94,16 @@ module _ (n : Entry) (r : List ℕ) where
   unfolding recordLegal
   octets-wrong e = rw e
 
-  module _ (right : recordRight r ≡ true) (h : Head) (e : h ≡ loaded r) where
+  module _ (right : recordRight r ≡ true) (h : Head) (e : h ≡ headIn r) where
     by-head : recordLegal n r
       ≡ eqb (h .seid .0) (n .seid .0) && channelRight (h .state) (h .channel)
         && (if isIdle (h .state) then keepsNothing (endpointIn r) else keepsSettings n (endpointIn r))
-    unfolding recordLegal legalEnd endpointIn loaded
+    unfolding recordLegal legalEnd endpointIn
     by-head = rw (right, e)
 
-    pub config-short : h .length ≤ 64
-    unfolding loaded recordRight
-    config-short = rw e (leb-true (getD r 7 0) configRoom (search (and-l, and-r)))
+    pub config-short : getD r 7 0 ≤ 64
+    unfolding recordRight
+    config-short = leb-true (getD r 7 0) configRoom (search (and-l, and-r))
 
     pub seid-wrong : (h .seid .0 ≡ n .seid .0 → ⊥) → false ≡ recordLegal n r
     seid-wrong f = sym (by-head ∙ rw (ne-eqb (h .seid .0) (n .seid .0) f))
@@ -114,22 +114,22 @@ module _ (n : Entry) (r : List ℕ) where
 
       module _ (channelled : channelRight (h .state) (h .channel) ≡ true) where
         nothing-kept : length r ≡ recordRoom
-          → eqb (h .far .0) 0 && eqb (h .length) 0 && not (isReported (h .delay)) ≡ keepsNothing (endpointIn r)
-        unfolding keepsNothing endpointIn loaded
+          → eqb (h .far .0) 0 && eqb (getD r 7 0) 0 && not (isReported (h .delay)) ≡ keepsNothing (endpointIn r)
+        unfolding keepsNothing endpointIn configIn
         nothing-kept long = rw (e, empty-taken (getD r 7 0) (drop headRoom r) (rw length-drop (omega arith)))
 
         pub idle-kept : isIdle (h .state) ≡ true → length r ≡ recordRoom
-          → eqb (h .far .0) 0 && eqb (h .length) 0 && not (isReported (h .delay)) ≡ recordLegal n r
+          → eqb (h .far .0) 0 && eqb (getD r 7 0) 0 && not (isReported (h .delay)) ≡ recordLegal n r
         idle-kept t long =
             nothing-kept long ∙ sym (by-head ∙ rw (eq-eqb (h .seid .0) (n .seid .0) same, channelled, t))
 
-        settings-kept : settingsRight (n .caps) (n .kind) (h .far) (part headRoom (h .length) r) (h .delay)
+        settings-kept : settingsRight (n .caps) (n .kind) (h .far) (part headRoom (getD r 7 0) r) (h .delay)
           ≡ keepsSettings n (endpointIn r)
-        unfolding settingsRight keepsSettings delayRight takesDelay endpointIn loaded part
+        unfolding settingsRight keepsSettings delayRight takesDelay endpointIn configIn part
         settings-kept = rw e
 
         pub other-kept : isIdle (h .state) ≡ false
-          → settingsRight (n .caps) (n .kind) (h .far) (part headRoom (h .length) r) (h .delay) ≡ recordLegal n r
+          → settingsRight (n .caps) (n .kind) (h .far) (part headRoom (getD r 7 0) r) (h .delay) ≡ recordLegal n r
         other-kept f = settings-kept ∙ sym (by-head ∙ rw (eq-eqb (h .seid .0) (n .seid .0) same, channelled, f))
 
 -- ---- The first record and those behind it
@@ -153,7 +153,7 @@ first-legal : (n : Entry) (book : Book) (k before : ℕ) (l : List ℕ)
   → recordsLegal (n ∷ book) (suc k) before l
     ≡ recordLegal n (take recordRoom l)
       && recordsLegal book k (before + awaitsIn (getD (take recordRoom l) 2 0)) (drop recordRoom l)
-unfolding recordsLegal recordLegal recordsRight endsIn legalEnds awaiting awaitsIn endpointIn
+unfolding recordsLegal recordLegal recordsRight endsIn legalEnds awaiting awaitsIn endpointIn headIn
 first-legal n book k before l =
     let r = take recordRoom l in
     let rest = endsIn k (drop recordRoom l) in

@@ -131,7 +131,7 @@ fn record_legal(seid: OurSeid, kind: u8, caps: &[u8], slot: &[u8]) -> bool
     }
     let far = e.far;
     let delay = e.delay;
-    let length = e.length;
+    let length = slot[CONFIG_LENGTH];
     if is_idle(state) {
         keeps_nothing(far, length, delay)
     } else {

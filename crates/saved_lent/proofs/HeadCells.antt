@@ -16,9 +16,9 @@ use denote.Memory.{cellAt, partAt, partOf}
 use denote.Steps.{owned, peeks}
 use denote.Struct.Steps.{spelt}
 use denote.Struct.Laws as LL
-use Rattle.saved.specs.declared.records.Endpoint.{Endpoint as Head}
-use Rattle.saved.proofs.records.Endpoint as T
-use Rattle.saved.proofs.records.Endpoint.Laws as T′
+use Rattle.rules.specs.declared.Head.{Head}
+use Rattle.rules.proofs.Head as T
+use Rattle.rules.proofs.Head.Laws as T′
 
 abbrev pub mach : Head → Val
 mach h = LL.val T.the-type T′.the-laws h

@@ -1,31 +1,32 @@
 // One record's head, lent: what a channel's coming up or going down makes of it is written where the caller keeps it. A function
 // with a reference to a struct is proved by a walk of its code, so there are two, without a branch, and other callers use
 // `turned`.
-use saved::records::Endpoint;
+use rules::Head;
 
 ghost use mathlib.Core.Path.{_≡_};
-ghost use Rattle.saved.specs.Moved.{turnedHead};
+ghost use Rattle.saved_lent.specs.Turned.{turnedHead};
 
 // The transition by value.
-fn by_channel(e: Endpoint, up: bool) -> Endpoint
+fn by_channel(e: Head, up: bool) -> Head
     ensures { λ r. ⌜ r ≡ turnedHead up e ⌝ }
 {
     if up {
         saved::moves::up(e)
     } else {
-        saved::moves::forgotten(e)
+        let seid = e.seid;
+        saved::moves::idle(seid)
     }
 }
 
 // Channel up or down of the endpoint whose head is lent.
-pub fn turn_channel(e: &mut Endpoint, up: bool)
+pub fn turn_channel(e: &mut Head, up: bool)
     ensures { λ _. ⌜ now (e .exit) ≡ turnedHead up (now (e .entry)) ⌝ }
 {
     *e = by_channel(*e, up);
 }
 
 // The same of a head that is handed over: this function keeps it, and lends it.
-pub fn turned(e: Endpoint, up: bool) -> Endpoint
+pub fn turned(e: Head, up: bool) -> Head
     ensures { λ r. ⌜ r ≡ turnedHead up e ⌝ }
 {
     let mut own = e;

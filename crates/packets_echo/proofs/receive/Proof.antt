@@ -1,7 +1,7 @@
 -- `receive` meets its contract: each answer of the gathering comes with the message that is complete, which is then written.
 use Prim.Native.Nat.{ℕ, _-_}
 use mathlib.Core.Path.{_≡_, refl, sym, ap, _∙_}
-use mathlib.Core.List.{List, [], _∷_, _++_}
+use mathlib.Core.List.{List, _++_}
 use mathlib.Core.Bool.{true, false}
 use mathlib.Core.Option.{Option, none, some}
 use native.Mathlib.Omega.{arith}
@@ -12,7 +12,7 @@ use Rattle.rules.specs.Packets.{Message, Step, gather}
 use Rattle.rules.specs.Saved.{gatheringIn, gatheringAt}
 use Rattle.rules.specs.Wires.{nextOf}
 use Rattle.rules.specs.declared.Next.{Next}
-use Rattle.rules.specs.declared.Next.the-variants.{Ended, Single, Begun, Grown, Complete}
+use Rattle.rules.specs.declared.Next.the-variants.{Single, Complete}
 use Rattle.octets.specs.Patch.{patch, part}
 use Rattle.octets.proofs.Patches.{front-patch}
 use Rattle.packets_gather.specs.Rooms.{RoomRight}

@@ -27,12 +27,12 @@ get-requires c κs =
       has-room (start .args .count) (at-loop .loop .i) (start .args .records .now) (start .args .records .now)
         (c .before .loop-test .taken) (start .pre) refl)
 
-forgotten-requires : tie.Need-forgotten-requires Inv-loop μ-loop
-forgotten-requires c κs = search needs
+idle-requires : tie.Need-idle-requires Inv-loop μ-loop
+idle-requires c κs = search needs
 
 set-requires : tie.Need-set-requires Inv-loop μ-loop
 set-requires c κs =
-    let in-loop = c .before .before .before .before in
+    let in-loop = c .before .before .before .before .before in
     let at-loop = in-loop .before in
     let start = at-loop .before .before in
     omega (arith, at-loop .loop .inv .2,
@@ -49,14 +49,14 @@ loop-again : tie.Need-loop-again Inv-loop μ-loop
 loop-again c =
     let was-set = c .before .before in
     let moved = was-set .before in
-    let got = moved .before .before in
+    let got = moved .before .before .before in
     let in-loop = got .before .before in
     let at-loop = in-loop .before in
     let start = at-loop .before .before in
     let room = has-room (start .args .count) (at-loop .loop .i) (start .args .records .now) (start .args .records .now)
                  (in-loop .loop-test .taken) (start .pre) refl in
     ( idle-turn (at-loop .loop .i) (at-loop .loop .records) (start .args .records .now) (was-set .set .last .0) (got .get .result)
-        (moved .forgotten .result) room (at-loop .loop .inv .0) (got .get .ensures) (moved .forgotten .ensures)
+        (moved .idle .result) room (at-loop .loop .inv .0) (got .get .ensures) (moved .idle .ensures)
         (was-set .set .ensures),
       omega arith,
       was-set .set .kept .0 ∙ at-loop .loop .inv .2)
@@ -79,7 +79,7 @@ lost-spec =
     μ-loop
     loop-holds
     get-requires
-    forgotten-requires
+    idle-requires
     set-requires
     add-i
     loop-less

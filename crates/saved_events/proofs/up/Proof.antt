@@ -33,8 +33,8 @@ is-awaited-requires c κs = search needs
 turned-requires : tie.Need-turned-requires Inv-loop μ-loop
 turned-requires c κs = search needs
 
-set-requires : tie.Need-set-requires Inv-loop μ-loop
-set-requires c κs =
+set-head-requires : tie.Need-set-head-requires Inv-loop μ-loop
+set-head-requires c κs =
     let in-loop = c .before .before .before .before .before .before in
     let at-loop = in-loop .before in
     let start = at-loop .before .before in
@@ -46,7 +46,7 @@ same-length : tie.Need-same-length Inv-loop μ-loop
 same-length c =
     let was-set = c .before .before in
     let at-loop = was-set .before .before .before .before .before .before .before .before in
-    was-set .set .kept .0 ∙ ap length (at-loop .loop .inv .0)
+    was-set .set-head .kept .0 ∙ ap length (at-loop .loop .inv .0)
 
 returns : tie.Need-returns Inv-loop μ-loop
 returns c =
@@ -58,10 +58,10 @@ returns c =
     let in-loop = got .before .before in
     let at-loop = in-loop .before in
     let start = at-loop .before .before in
-    up-done (start .args .count) (at-loop .loop .i) (at-loop .loop .records) (start .args .records .now) (was-set .set .last .0)
+    up-done (start .args .count) (at-loop .loop .i) (at-loop .loop .records) (start .args .records .now) (was-set .set-head .last .0)
       (got .get .result) (moved .turned .result) (asked .is-awaited .result) (in-loop .loop-test .taken) (start .pre)
       (at-loop .loop .inv .2) (at-loop .loop .inv .0) (got .get .ensures) (asked .is-awaited .ensures) (tested .if1 .taken)
-      (moved .turned .ensures) (was-set .set .ensures)
+      (moved .turned .ensures) (was-set .set-head .ensures)
 
 add-i : tie.Need-add-i Inv-loop μ-loop
 add-i c = omega arith
@@ -103,7 +103,7 @@ up-spec =
     get-requires
     is-awaited-requires
     turned-requires
-    set-requires
+    set-head-requires
     same-length
     returns
     add-i

@@ -57,8 +57,8 @@ at-hand c =
 shared-slice-read-at : tie.Need-shared-slice-read-at Inv-loop μ-loop
 shared-slice-read-at c = let h = at-hand (c .before .before) in omega arith
 
-begun-requires : tie.Need-begun-requires Inv-loop μ-loop
-begun-requires c κs = search needs
+idle-requires : tie.Need-idle-requires Inv-loop μ-loop
+idle-requires c κs = search needs
 
 set-requires : tie.Need-set-requires Inv-loop μ-loop
 set-requires c κs = let h = at-hand (c .before .before .before) in omega arith
@@ -99,8 +99,8 @@ loop-again c =
     ( omega arith,
       was-set .set .kept .0 ∙ here .inv .1,
       other-entries n left book (here .at) (omega arith) (here .inv .2),
-      one-begun n left book (here .at) (here .i) (here .records) (was-set .set .last .0) (made .begun .result) (omega arith)
-        (at-hand in-loop .room) (made .begun .ensures) (was-set .set .ensures) (here .inv .3))
+      one-begun n left book (here .at) (here .i) (here .records) (was-set .set .last .0) (made .idle .result) (omega arith)
+        (at-hand in-loop .room) (made .idle .ensures) (was-set .set .ensures) (here .inv .3))
 
 same-length : tie.Need-same-length Inv-loop μ-loop
 same-length c = c .before .loop .inv .1
@@ -122,7 +122,7 @@ begin-spec =
     count-requires
     loop-holds
     shared-slice-read-at
-    begun-requires
+    idle-requires
     set-requires
     add-at
     add-at-2

@@ -7,7 +7,7 @@ use mathlib.Core.Path.{_≡_, sym, ap, subst, _∙_}
 use mathlib.Core.List.{List}
 use lib.ListN.{length}
 use Rattle.rules.specs.Book.{bookOf}
-use Rattle.rules.specs.Saved.{gatheringRoom, recordsPlace, recordRoom, areaFor, countIn}
+use Rattle.rules.specs.Saved.{gatheringRoom, recordRoom, areaFor, countIn}
 use Rattle.rules.proofs.RightBook.{right-book}
 use Rattle.rules.proofs.SavedReads.{gathering-room, records-room}
 use Rattle.saved_legal.specs.Legal.{recordsLegal, roomLegal}

@@ -2,8 +2,8 @@
 use mathlib.Core.Path.{_≡_, sym, ap, _∙_}
 use mathlib.Core.Bool.{Bool, true, false}
 use borrow.Author.Needs.{needs}
-use Rattle.saved.specs.Moved.{turnedHead}
-use Rattle.saved.specs.declared.records.Endpoint.{Endpoint as Head}
+use Rattle.saved_lent.specs.Turned.{turnedHead}
+use Rattle.rules.specs.declared.Head.{Head}
 use Rattle.saved_lent.proofs.by_channel.Statement.{statement}
 use Rattle.saved_lent.proofs.by_channel.Tie as tie
 
@@ -13,8 +13,8 @@ by-flag up b h r told is = is ∙ ap (λ (x : Bool). turnedHead x h) (sym told)
 up-requires : tie.Need-up-requires
 up-requires c κs = search needs
 
-forgotten-requires : tie.Need-forgotten-requires
-forgotten-requires c κs = search needs
+idle-requires : tie.Need-idle-requires
+idle-requires c κs = search needs
 
 returns : tie.Need-returns
 returns c =
@@ -23,8 +23,8 @@ returns c =
 
 returns-2 : tie.Need-returns-2
 returns-2 c =
-    let start = c .before .before in
-    by-flag (start .args .up) false (start .args .e) (c .forgotten .result) (c .before .if1 .left) (c .forgotten .ensures)
+    let start = c .before .before .before in
+    by-flag (start .args .up) false (start .args .e) (c .idle .result) (c .before .before .if1 .left) (c .idle .ensures)
 
 pub by-channel-spec : {M : Type 1} → statement M
-by-channel-spec = tie.close (tie.spec up-requires forgotten-requires returns returns-2)
+by-channel-spec = tie.close (tie.spec up-requires idle-requires returns returns-2)

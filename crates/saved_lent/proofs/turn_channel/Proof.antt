@@ -38,9 +38,9 @@ use denote.Triple.Clauses.{ensured, lasts}
 use denote.Triple.Walked.{says, Stays, stay-ref, stay-none, walkOf, AllGo, goes-none, goes-ref}
 use denote.Triple.Walked.{Walks, ends-at, walked, walk-meets}
 use denote.Exit.{yes}
-use Rattle.saved.specs.Moved.{turnedHead}
-use Rattle.saved.specs.declared.records.Endpoint.{Endpoint as Head}
-use Rattle.saved.proofs.records.Endpoint as T
+use Rattle.saved_lent.specs.Turned.{turnedHead}
+use Rattle.rules.specs.declared.Head.{Head}
+use Rattle.rules.proofs.Head as T
 use Rattle.saved_lent.proofs.HeadCells.{mach, typed, seen}
 use Rattle.saved_lent.proofs.by_channel as called
 use Rattle.saved_lent.proofs.by_channel.Symbol as called-def

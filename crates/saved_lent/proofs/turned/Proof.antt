@@ -41,10 +41,10 @@ use denote.Triple.Table.{entered, cited}
 use denote.Triple.Clauses.{ensured, lasts}
 use denote.Triple.Walked.{says, Stays, stay-none, walkOf, AllGo, goes-none, Walks, ends-at, walked, walk-meets}
 use denote.Exit.{yes}
-use Rattle.saved.specs.Moved.{turnedHead}
-use Rattle.saved.specs.declared.records.Endpoint.{Endpoint as Head}
-use Rattle.saved.proofs.records.Endpoint as T
-use Rattle.saved.proofs.records.Endpoint.Laws as T′
+use Rattle.saved_lent.specs.Turned.{turnedHead}
+use Rattle.rules.specs.declared.Head.{Head}
+use Rattle.rules.proofs.Head as T
+use Rattle.rules.proofs.Head.Laws as T′
 use Rattle.saved_lent.proofs.HeadCells.{mach, Good, typed, into, out}
 use Rattle.saved_lent.proofs.turn_channel as called
 use Rattle.saved_lent.proofs.turn_channel.Symbol as called-def

@@ -14,11 +14,8 @@ add-store c = search needs
 store-requires : tie.Need-store-requires
 store-requires c κs = search needs
 
-cast-reconfigured : tie.Need-cast-reconfigured
-cast-reconfigured c = search needs
-
-reconfigured-requires : tie.Need-reconfigured-requires
-reconfigured-requires c κs = search needs
+cast-set : tie.Need-cast-set
+cast-set c = search needs
 
 set-requires : tie.Need-set-requires
 set-requires c κs = search needs
@@ -29,14 +26,12 @@ same-length c = search needs
 returns : tie.Need-returns
 returns c =
     let set = c .before .before in
-    let moved = set .before in
-    let store = moved .before .before .before .before in
+    let store = set .before .before .before .before in
     let start = store .before .before .before .before .before in
     let args = start .args in
     let config = markedStore (args .new .now) (args .fresh) (args .old .now) (args .left) in
-    kept-by (args .index) (args .head) (moved .reconfigured .result) config (args .records .now) (store .store .last .0)
-      (set .set .last .0) (store .store .result) (start .pre .0) (start .pre .3) (store .store .ensures)
-      (moved .reconfigured .ensures) (set .set .ensures)
+    kept-by (args .index) (args .head) config (args .records .now) (store .store .last .0) (set .set .last .0)
+      (store .store .result) (start .pre .0) (start .pre .3) (store .store .ensures) (set .set .ensures)
 
 pub keep-spec : {M : Type 1} → statement M
 keep-spec =
@@ -45,8 +40,7 @@ keep-spec =
     mul-store
     add-store
     store-requires
-    cast-reconfigured
-    reconfigured-requires
+    cast-set
     set-requires
     same-length
     returns)

@@ -6,37 +6,38 @@ use lib.ListN.{length, take}
 use lib.Seq.{length-take-le}
 use borrow.Author.Needs.{needs}
 use Rattle.saved.specs.Records.{configAt}
-use Rattle.commands_set.proofs.Anew.{renew-reads, size-short, copy-fits, copied, old-short, never, renew-keeps}
+use Rattle.commands_set.proofs.Anew.{renew-reads, copy-fits, copied, old-short, never, renew-keeps}
 use Rattle.commands_set.proofs.Anew.{renew-writes}
 use Rattle.commands_set.proofs.renewals.renew.Statement.{statement}
 use Rattle.commands_set.proofs.renewals.renew.Tie as tie
-
-cast-size : tie.Need-cast-size
-cast-size c = search needs
 
 slice-aggregate-put : tie.Need-slice-aggregate-put
 slice-aggregate-put c = search needs
 
 abbrev start-of : tie.After-config-arg → tie.Start
-start-of c = c .before .before .before .before .before .before
+start-of c = c .before .before .before .before
 
 config-requires : tie.Need-config-requires
 config-requires c κs = renew-reads (start-of c .pre)
 
 put-requires : tie.Need-put-requires
-put-requires c κs = copy-fits (start-of (c .before) .pre) (c .config .ensures)
+put-requires c κs = copy-fits (start-of (c .before .before) .pre) (c .before .config .ensures)
 
--- the copy is as long as it was before
-copy-room : (c : tie.After-copy2) → start-of (c .before .before .before) .args .head .length ≤ length (c .before .put .last .0)
-copy-room c = omega (arith, size-short (start-of (c .before .before .before) .pre), c .before .put .kept)
+-- the copy is as long as it was before, and has room for what is stored
+copy-room : (c : tie.After-copy2) → length (c .before .before .before .config .result .now) ≤ length (c .before .put .last .0)
+copy-room c =
+    let config = c .before .before .before in
+    omega (arith, copy-fits (start-of (config .before) .pre) (config .config .ensures), c .before .put .kept)
 
 -- what is lent of it is what is stored
 old-same : (c : tie.After-copy3)
-  → let args = start-of (c .before .before .before .before) .args in
-    take (args .head .length) (c .before .before .put .last .0) ≡ configAt (args .index) (args .records .now)
+  → let put = c .before .before in
+    let args = start-of (put .before .before .before) .args in
+    take (length (put .before .before .config .result .now)) (put .put .last .0) ≡ configAt (args .index) (args .records .now)
 old-same c =
     let put = c .before .before in
-    copied (start-of (put .before .before) .pre) (put .before .config .ensures) _ refl (put .put .ensures)
+    let config = put .before .before in
+    copied (start-of (config .before) .pre) (config .config .ensures) _ refl (put .put .ensures)
 
 array-share-prefix-copy : tie.Need-array-share-prefix-copy
 array-share-prefix-copy c = copy-room c
@@ -45,7 +46,7 @@ slice-aggregate-old : tie.Need-slice-aggregate-old
 slice-aggregate-old c = sym (length-take-le _ _ (copy-room (c .before)))
 
 check-requires : tie.Need-check-requires
-check-requires c κs = (old-short (start-of (c .before .before .before .before) .pre) (old-same c), tt)
+check-requires c κs = (old-short (start-of (c .before .before .before .before .before) .pre) (old-same c), tt)
 
 enum-told : tie.Need-enum-told
 enum-told c = search needs
@@ -57,7 +58,7 @@ keep-requires : tie.Need-keep-requires
 keep-requires c κs =
     let clean = c .before .before in
     let checked = clean .before .before in
-    renew-keeps (start-of (checked .before .before .before .before .before) .pre) (old-same (checked .before))
+    renew-keeps (start-of (checked .before .before .before .before .before .before) .pre) (old-same (checked .before))
       (sym (checked .check .ensures) ∙ clean .walked .given .1)
 
 same-length : tie.Need-same-length
@@ -66,7 +67,7 @@ same-length c = search needs
 returns : tie.Need-returns
 returns c =
     let checked = c .before .before in
-    never (start-of (checked .before .before .before .before .before) .pre) (old-same (checked .before))
+    never (start-of (checked .before .before .before .before .before .before) .pre) (old-same (checked .before))
       (sym (checked .check .ensures) ∙ c .enum-told .given .1)
 
 same-length-2 : tie.Need-same-length-2
@@ -77,16 +78,15 @@ returns-2 c =
     let kept = c .before .before in
     let clean = kept .before .before .before in
     let checked = clean .before .before in
-    renew-writes (start-of (checked .before .before .before .before .before) .pre) (old-same (checked .before))
+    renew-writes (start-of (checked .before .before .before .before .before .before) .pre) (old-same (checked .before))
       (sym (checked .check .ensures) ∙ clean .walked .given .1) (kept .keep .ensures)
 
 pub renew-spec : {M : Type 1} → statement M
 renew-spec =
     tie.close
     (tie.spec
-    cast-size
-    slice-aggregate-put
     config-requires
+    slice-aggregate-put
     put-requires
     array-share-prefix-copy
     slice-aggregate-old

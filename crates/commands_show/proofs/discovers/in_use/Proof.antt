@@ -6,16 +6,15 @@ use mathlib.Core.Bool.{Bool, true, false}
 use borrow.Author.Needs.{needs}
 use Rattle.rules.specs.Octets.{if_then_else_}
 use Rattle.rules.specs.Endpoints.{isIdle}
-use Rattle.rules.specs.Saved.{endpointIn}
+use Rattle.rules.specs.Saved.{headIn, endpointIn}
 use Rattle.rules.specs.Commands.{inUse}
-use Rattle.saved.specs.declared.records.Endpoint.{Endpoint as Head}
-use Rattle.saved.specs.Records.{loaded}
+use Rattle.rules.specs.declared.Head.{Head}
 use Rattle.commands_show.proofs.discovers.in_use.Statement.{statement}
 use Rattle.commands_show.proofs.discovers.in_use.Tie as tie
 
-use-by : (h : Head) (r : List ℕ) (idle : Bool) → h ≡ loaded r → idle ≡ isIdle (h .state)
+use-by : (h : Head) (r : List ℕ) (idle : Bool) → h ≡ headIn r → idle ≡ isIdle (h .state)
   → _≡_ {A = ℕ} (if idle then 0 else 2) (inUse (endpointIn r))
-unfolding loaded inUse endpointIn
+unfolding inUse endpointIn
 use-by h r idle e f =
     ap (λ (b : Bool). if b then 0 else 2) f ∙ ap (λ (x : Head). if isIdle (x .state) then 0 else 2) e
 

@@ -64,7 +64,7 @@ at-hand c =
 -- one bit
 used-little : (e : Endpoint) {n : ℕ} → n ≡ inUse e → n ≤ 2
 unfolding inUse
-used-little e {n} = go (isIdle (e .state))
+used-little e {n} = go (isIdle (e .head .state))
   where
     go : (b : Bool) → n ≡ (if b then 0 else 2) → n ≤ 2
     go true h = omega arith

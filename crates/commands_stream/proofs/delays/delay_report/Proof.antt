@@ -70,8 +70,8 @@ add-tenths c = omega (arith, c .before .shared-slice-known3 .given 1, c .shared-
 delayed-requires : tie.Need-delayed-requires
 delayed-requires c κs = search needs
 
-set-requires : tie.Need-set-requires
-set-requires c κs = stands (start (c .before .before .before .before .before .before .before .before) .pre) .inside
+set-head-requires : tie.Need-set-head-requires
+set-head-requires c κs = stands (start (c .before .before .before .before .before .before .before .before) .pre) .inside
 
 accepted-requires : tie.Need-accepted-requires
 accepted-requires c κs = search needs
@@ -87,7 +87,7 @@ returns-2 c =
     let test = got .before .before in
     let read = test .before .before in
     delay-moves (start read .pre) (read .config .ensures) (test .before .takes-delay .ensures) (test .if1 .left)
-      (got .get .ensures) (moved .delayed .ensures) (c .accepted .ensures) (stored .set .ensures)
+      (got .get .ensures) (moved .delayed .ensures) (c .accepted .ensures) (stored .set-head .ensures)
 
 pub delay-report-spec : {M : Type 1} → statement M
 delay-report-spec =
@@ -107,7 +107,7 @@ delay-report-spec =
     cast-tenths-2
     add-tenths
     delayed-requires
-    set-requires
+    set-head-requires
     accepted-requires
     same-length-3
     returns-2)

@@ -11,7 +11,7 @@ use lib.Seq.{drop-drop, getD-take, getD-drop}
 use borrow.Author.Tests.{ne-eqb}
 use Rattle.rules.specs.Octets.{if_then_else_}
 use Rattle.rules.specs.Endpoints.{isAwaited, awaiting}
-use Rattle.rules.specs.Saved.{recordRoom, channelIn, endpointIn, endsIn}
+use Rattle.rules.specs.Saved.{recordRoom, channelIn, endpointIn, endsIn, headIn}
 use Rattle.commands_stream.proofs.opens.none_awaits.Statement.{statement}
 use Rattle.commands_stream.proofs.opens.none_awaits.Tie as tie
 
@@ -38,7 +38,7 @@ module _ (n left : ℕ) (l : List ℕ) (i : ℕ) (e : left ≡ suc n) where
   await-step : awaiting (endsIn left (drop (i * recordRoom) l))
     ≡ (if isAwaited (channelIn (getD l (i * recordRoom + 2) 0)) then 1 else 0)
       + awaiting (endsIn n (drop ((i + 1) * recordRoom) l))
-  unfolding awaiting endsIn endpointIn
+  unfolding awaiting endsIn endpointIn headIn
   await-step =
       let next : i * recordRoom + recordRoom ≡ (i + 1) * recordRoom = omega arith in
       ap (λ (k : ℕ). awaiting (endsIn k (drop (i * recordRoom) l))) e

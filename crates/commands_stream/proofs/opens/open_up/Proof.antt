@@ -38,8 +38,8 @@ get-requires c κs = stands (start (c .before .before .before) .pre) .inside
 opened-requires : tie.Need-opened-requires
 opened-requires c κs = search needs
 
-set-requires : tie.Need-set-requires
-set-requires c κs = stands (start (c .before .before .before .before .before .before) .pre) .inside
+set-head-requires : tie.Need-set-head-requires
+set-head-requires c κs = stands (start (c .before .before .before .before .before .before) .pre) .inside
 
 accepted-requires : tie.Need-accepted-requires
 accepted-requires c κs = search needs
@@ -55,7 +55,7 @@ returns-2 c =
     let test = got .before .before in
     let counted = test .before .before in
     open-moves (start counted .pre) (counted .count .ensures) (test .before .none-awaits .ensures) (test .if1 .left)
-      (got .get .ensures) (moved .opened .ensures) (c .accepted .ensures) (stored .set .ensures)
+      (got .get .ensures) (moved .opened .ensures) (c .accepted .ensures) (stored .set-head .ensures)
 
 pub open-up-spec : {M : Type 1} → statement M
 open-up-spec =
@@ -69,7 +69,7 @@ open-up-spec =
     returns
     get-requires
     opened-requires
-    set-requires
+    set-head-requires
     accepted-requires
     same-length-3
     returns-2)

@@ -34,12 +34,9 @@ shared-slice-read-t6 c = search needs
 shared-slice-read-t12 : tie.Need-shared-slice-read-t12
 shared-slice-read-t12 c = search needs
 
-shared-slice-read-t10 : tie.Need-shared-slice-read-t10
-shared-slice-read-t10 c = search needs
-
 returns : tie.Need-returns
 returns c =
-    let delayed = c .before .before .before in
+    let delayed = c .before .before in
     let channelled = delayed .before .before .before .before in
     let stated = channelled .before .before in
     loaded-by (stated .before .before .before .args .slot .now) (stated .state-in .result) (channelled .channel-in .result)
@@ -59,5 +56,4 @@ load-spec =
     delay-in-requires
     shared-slice-read-t6
     shared-slice-read-t12
-    shared-slice-read-t10
     returns)

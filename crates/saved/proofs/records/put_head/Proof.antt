@@ -22,7 +22,7 @@ returns c =
     let put = c .before .before in
     let used = put .before .before .before .before .before in
     let args = used .before .before .before .args in
-    put .put .ensures ∙ unused-behind (args .slot .now) _ (args .e) (used .put-used .ensures)
+    put .put .ensures ∙ unused-behind (args .slot .now) _ (args .h) (args .length) (used .put-used .ensures)
 
 pub put-head-spec : {M : Type 1} → statement M
 put-head-spec =

@@ -53,7 +53,8 @@ same-length c = simp length-set
 
 returns : tie.Need-returns
 returns c =
-    put-by (c .before .before .before .before .before .args .slot .now) (c .before .before .before .before .before .args .e)
+    put-by (c .before .before .before .before .before .args .slot .now) (c .before .before .before .before .before .args .h)
+      (c .before .before .before .before .before .args .length)
       (c .before .before .state-octet .result) (c .before .channel-octet .result) (c .delay-mark .result)
       (c .before .before .before .delay-tenths .result) (c .before .before .before .before .before .pre)
       (c .before .before .state-octet .ensures) (c .before .channel-octet .ensures) (c .delay-mark .ensures)

@@ -29,7 +29,7 @@ returns : tie.Need-returns
 returns c =
     let args = c .before .before .before .before .before .args in
     let put = c .before .before .put-head in
-    set-by (args .i) (args .records .now) (put .last .0) (args .e) (put .ensures)
+    set-by (args .i) (args .records .now) (put .last .0) (args .h) (args .length) (put .ensures)
 
 pub set-spec : {M : Type 1} → statement M
 set-spec =

@@ -6,7 +6,7 @@ use native.Mathlib.Omega.{arith}
 use mathlib.Core.Path.{_≡_, sym, ap, subst, _∙_}
 use mathlib.Core.List.{List}
 use mathlib.Core.Bool.{true}
-use lib.ListN.{length}
+use lib.ListN.{length, getD}
 use Rattle.rules.specs.Book.{Entry}
 use Rattle.rules.specs.Endpoints.{channelRight}
 use Rattle.rules.specs.Saved.{headRoom, recordRight}
@@ -65,32 +65,35 @@ is-idle-requires c κs = search needs
 keeps-nothing-requires : tie.Need-keeps-nothing-requires
 keeps-nothing-requires c κs = search needs
 
-cast-part : tie.Need-cast-part
-cast-part c = search needs
-
 -- the configuration's length
-short : (c : tie.After-load) → c .load .result .length ≤ 64
+short : (c : tie.After-load) → getD (c .before .before .before .before .before .args .slot .now) 7 0 ≤ 64
 short c =
     let start = c .before .before .before .before .before in
     config-short (entry start) (start .args .slot .now) (past-octets (c .before)) (c .load .result) (c .load .ensures)
 
+shared-slice-read-length : tie.Need-shared-slice-read-length
+shared-slice-read-length c = search needs
+
+cast-part : tie.Need-cast-part
+cast-part c = omega (arith, short (c .before .before .before .before .before .before .before .before .before))
+
 part-requires : tie.Need-part-requires
 part-requires c κs =
-    let loaded = c .before .before .before .before .before .before .before .before in
+    let loaded = c .before .before .before .before .before .before .before .before .before in
     omega (arith, short loaded, loaded .before .before .before .before .before .pre .1)
 
 keeps-settings-requires : tie.Need-keeps-settings-requires
 keeps-settings-requires c κs =
-    let loaded = c .before .before .before .before .before .before .before .before .before in
+    let loaded = c .before .before .before .before .before .before .before .before .before .before in
     let start = loaded .before .before .before .before .before in
     ( start .pre .0,
       subst (λ (x : List _). length x ≤ 64) (sym (c .part .ensures))
-        (part-short headRoom (loaded .load .result .length) (start .args .slot .now) (short loaded)))
+        (part-short headRoom (getD (start .args .slot .now) 7 0) (start .args .slot .now) (short loaded)))
 
 returns-4 : tie.Need-returns-4
 returns-4 c =
     let idle = c .before in
-    let channelled = idle .before .before .before in
+    let channelled = idle .before .before .before .before in
     let ours = channelled .before .before in
     let loaded = ours .before .before .before in
     let start = loaded .before .before .before .before .before in
@@ -103,7 +106,7 @@ returns-5 : tie.Need-returns-5
 returns-5 c =
     let part = c .before in
     let other = part .before in
-    let channelled = other .before .before .before in
+    let channelled = other .before .before .before .before in
     let ours = channelled .before .before in
     let loaded = ours .before .before .before in
     let start = loaded .before .before .before .before .before in
@@ -124,6 +127,7 @@ record-legal-spec =
     returns-2
     channel-right-requires
     returns-3
+    shared-slice-read-length
     is-idle-requires
     keeps-nothing-requires
     cast-part
