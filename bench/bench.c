@@ -8,7 +8,7 @@
 #include "bawbeenor.h"
 
 /* A step: its kind, six numbers of 16 bits, low octet first, the length of its octets, and the octets. */
-enum { BOOK, REBOOK, SIZE, AREA, PACKET, UP, DOWN, LOST, SETTINGS, DELAY, CUT, MEASURE };
+enum { BOOK, REBOOK, SIZE, AREA, PACKET, UP, DOWN, LOST, SETTINGS, DELAY, CUT, MEASURE, STATUS };
 
 typedef struct {
     unsigned kind, numbers[6];
@@ -74,6 +74,10 @@ static inline __attribute__((always_inline)) uint64_t take(const step *s)
         return a.number + a.length;
     }
     case DELAY: return bawbeenor_delay(book, book_length, saved, sizeof saved, (uint8_t)s->numbers[0]).tenths;
+    case STATUS: {
+        bawbeenor_standing a = bawbeenor_status(book, book_length, saved, sizeof saved, (uint8_t)s->numbers[0]);
+        return (uint64_t)a.number + a.state + a.channel + a.far_seid;
+    }
     case CUT: {
         bawbeenor_written a =
             bawbeenor_cut(s->numbers[0], (uint8_t)s->numbers[1], (uint8_t)s->numbers[2], (uint8_t)s->numbers[3], s->octets,

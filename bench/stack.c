@@ -8,8 +8,8 @@
 
 enum { ROOM = 32768, PAINT = 0xA5 };
 
-static const char *const names[] = { "check", "fresh", "packet", "event", "settings", "delay", "packets", "cut" };
-enum { CHECK, FRESH, PACKET, EVENT, SETTINGS, DELAY, PACKETS, CUT, CALLS };
+static const char *const names[] = { "check", "fresh", "packet", "event", "settings", "delay", "status", "packets", "cut" };
+enum { CHECK, FRESH, PACKET, EVENT, SETTINGS, DELAY, STATUS, PACKETS, CUT, CALLS };
 static long deepest[CALLS];
 
 static void report(void)
@@ -66,6 +66,7 @@ WRAP(bawbeenor_answer, packet, PACKET,
 WRAP(uint8_t, event, EVENT, (const uint8_t *b, size_t n, uint8_t *s, size_t m, uint8_t k, uint8_t e), (b, n, s, m, k, e))
 WRAP(bawbeenor_span, settings, SETTINGS, (const uint8_t *b, size_t n, const uint8_t *s, size_t m, uint8_t e), (b, n, s, m, e))
 WRAP(bawbeenor_lag, delay, DELAY, (const uint8_t *b, size_t n, const uint8_t *s, size_t m, uint8_t e), (b, n, s, m, e))
+WRAP(bawbeenor_standing, status, STATUS, (const uint8_t *b, size_t n, const uint8_t *s, size_t m, uint8_t e), (b, n, s, m, e))
 WRAP(size_t, packets, PACKETS, (size_t z, size_t n), (z, n))
 WRAP(bawbeenor_written, cut, CUT,
      (size_t z, uint8_t l, uint8_t k, uint8_t g, const uint8_t *p, size_t n, size_t i, uint8_t *a, size_t m),

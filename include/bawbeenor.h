@@ -119,6 +119,7 @@ typedef struct {
 /* The delay that the far end reported for it. 1 to 7, 12, 10 where the book has no such SEID; a refusal shows unreported. */
 bawbeenor_lag bawbeenor_delay(const uint8_t *book, size_t book_length, const uint8_t *saved, size_t saved_length, uint8_t seid);
 
+/* For code that is built against headers of several editions: this one declares bawbeenor_status. */
 #define BAWBEENOR_STATUS_DECLARED 1
 
 enum { BAWBEENOR_IDLE = 0, BAWBEENOR_CONFIGURED = 1, BAWBEENOR_OPEN = 2, BAWBEENOR_STREAMING = 3, BAWBEENOR_CLOSING = 4,

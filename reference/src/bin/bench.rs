@@ -34,7 +34,7 @@ use std::hint::black_box;
 use std::io::{self, BufWriter, Write};
 
 use book::OurSeid;
-use bridge::{Event, PacketAnswer};
+use bridge::{Event, PacketAnswer, Status};
 use endpoints::Connection;
 use numbers::Number;
 use packets::Message;
@@ -86,9 +86,8 @@ fn write_step(out: &mut impl Write, step: Step) -> io::Result<()> {
             (10, [size, m.label.into(), m.message_type.into(), m.signal.into(), area, number], m.payload)
         }
         Step::Explain => (11, [0; 6], Vec::new()),
-        Step::Status(_) | Step::States | Step::Count(_) | Step::Record(_) | Step::Gathering(_) => {
-            return Ok(())
-        }
+        Step::Status(seid) => (12, [seid.0.into(), 0, 0, 0, 0, 0], Vec::new()),
+        Step::States | Step::Count(_) | Step::Record(_) | Step::Gathering(_) => return Ok(()),
     };
     out.write_all(&[kind])?;
     for number in numbers {
@@ -107,6 +106,7 @@ enum Call<'a> {
     Event(Event),
     Settings(OurSeid),
     Delay(OurSeid),
+    Status(OurSeid),
     Cut { size: usize, message: Message, area: usize, number: usize },
     Measure,
 }
@@ -136,6 +136,7 @@ fn read_trace(mut octets: &[u8]) -> Vec<Call<'_>> {
             8 => Call::Settings(seid),
             9 => Call::Delay(seid),
             11 => Call::Measure,
+            12 => Call::Status(seid),
             _ => Call::Cut {
                 size: pair(0).into(),
                 message: Message {
@@ -219,6 +220,10 @@ impl<'a> Host<'a> {
                 Ok(tenths) => tenths.unwrap_or(0).into(),
                 Err(_) => 0,
             },
+            Call::Status(seid) => match self.status(*seid) {
+                Ok(status) => status.state as u64 + status.channel as u64 + u64::from(status.far.0),
+                Err(number) => number.into(),
+            },
             Call::Cut { size, message, area, number } => match bridge::cut(*size, message, *number, *area) {
                 Ok(packet) => black_box(packet).len() as u64,
                 Err(number) => number.into(),
@@ -247,6 +252,11 @@ impl<'a> Host<'a> {
     fn delay(&self, seid: OurSeid) -> Result<Option<u16>, Number> {
         let book = book::read(self.book)?;
         bridge::delay(&book, &self.connection, seid)
+    }
+
+    fn status(&self, seid: OurSeid) -> Result<Status, Number> {
+        let book = book::read(self.book)?;
+        bridge::status(&book, &self.connection, seid)
     }
 }
 
