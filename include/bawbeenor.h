@@ -90,8 +90,8 @@ enum { BAWBEENOR_UP = 0, BAWBEENOR_DOWN = 1, BAWBEENOR_LOST = 2 };
 
 /* Takes a link event: BAWBEENOR_UP the awaited media channel is there, BAWBEENOR_DOWN the media channel of our endpoint `seid`
    is gone, BAWBEENOR_LOST the link is. `seid` counts for BAWBEENOR_DOWN only. 1 to 7, 12, 10 where no endpoint awaits a
-   channel, where the endpoint has none, or where `kind` is none of the three. BAWBEENOR_LOST always applies. */
-uint8_t bawbeenor_event(const uint8_t *book, size_t book_length, uint8_t *saved, size_t saved_length, uint8_t kind, uint8_t seid);
+   channel, where the endpoint has none, or where `event` is none of the three. BAWBEENOR_LOST always applies. */
+uint8_t bawbeenor_event(const uint8_t *book, size_t book_length, uint8_t *saved, size_t saved_length, uint8_t event, uint8_t seid);
 
 /* ---- Questions about an endpoint of ours */
 

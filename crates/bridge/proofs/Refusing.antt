@@ -11,7 +11,8 @@ use Rattle.rules.specs.Octets.{if_then_else_, octetsIn}
 use Rattle.rules.specs.Book.{bookNumber, bookOf}
 use Rattle.rules.specs.Packets.{sizeRight}
 use Rattle.rules.specs.Saved.{recordsPlace, areaFor, savedRight}
-use Rattle.rules.specs.Host.{numberOr, savedNumber, refusalOf, packetRefusal, Told, nothingSaid, Answered, packetCall}
+use Rattle.rules.specs.Host.{numberOr, savedNumber, refusalOf, packetRefusal, nothingSaid, Answered, packetCall}
+use Rattle.rules.specs.declared.Told.{Told}
 use Rattle.rules.proofs.SavedReads.{octets-known}
 use Rattle.rules.proofs.SavedStaysRight.{right-long}
 use Rattle.rules.proofs.Unrefused.{none-refused, packet-unrefused, packet-room}

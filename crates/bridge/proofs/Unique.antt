@@ -3,15 +3,13 @@
 use Prim.Native.Nat.{ℕ}
 use mathlib.Core.Path.{_≡_, sym, ap, _∙_}
 use mathlib.Core.List.{List}
-use Rattle.rules.specs.Host.{Kept, Answered, Told, Heard, Cut, checkCall, settingsCall, statusCall, packetsCall}
-use Rattle.rules.specs.Answers.{toldBy}
-use Rattle.rules.specs.Wires.{cutBy}
+use Rattle.rules.specs.Host.{Kept, Answered, Cut, checkCall, settingsCall, statusCall, packetsCall}
 use Rattle.rules.specs.declared.OurSeid.{OurSeid}
 use Rattle.rules.specs.declared.Event.{Event}
-use Rattle.rules.specs.declared.Told.{Told as ToldBy}
-use Rattle.rules.specs.declared.Heard.{Heard as HeardBy}
 use Rattle.rules.specs.declared.Piece.{Piece}
 use Rattle.rules.specs.declared.Standing.{Standing}
+use Rattle.rules.specs.declared.Heard.{Heard}
+use Rattle.rules.specs.declared.Told.{Told}
 use Rattle.bridge.specs.Calls.{Freshens, Takes, Happens, Hears, Cuts}
 
 pub check-unique : (book : List ℕ) {n m : ℕ} → n ≡ checkCall book → m ≡ checkCall book → n ≡ m
@@ -22,15 +20,11 @@ pub fresh-unique : (book saved : List ℕ) {n m : ℕ} {s t : List ℕ} → Fres
 fresh-unique book saved p q =
     (ap (λ (k : Kept). k .number) (p ∙ sym q), ap (λ (k : Kept). k .saved) (p ∙ sym q))
 
-told-same : {t u : ToldBy} → toldBy t ≡ toldBy u → t ≡ u
-told-same e =
-    ap (λ (x : Told). record { number = x .number; label = x .label; kind = x .type; signal = x .signal; length = x .length }) e
-
-pub packet-unique : (book : List ℕ) (size : ℕ) (saved packet reply : List ℕ) {t u : ToldBy} {s s′ r r′ : List ℕ}
+pub packet-unique : (book : List ℕ) (size : ℕ) (saved packet reply : List ℕ) {t u : Told} {s s′ r r′ : List ℕ}
   → Takes book size saved packet reply t s r → Takes book size saved packet reply u s′ r′ → (t ≡ u) × (s ≡ s′) × (r ≡ r′)
 packet-unique book size saved packet reply p q =
     let e = p ∙ sym q in
-    ( told-same (ap (λ (a : Answered). a .told) e),
+    ( ap (λ (a : Answered). a .told) e,
       ap (λ (a : Answered). a .saved) e,
       ap (λ (a : Answered). a .reply) e)
 
@@ -47,9 +41,8 @@ pub settings-told-unique : (book saved : List ℕ) (s : OurSeid) {n m : ℕ} →
   → m ≡ settingsCall book saved s .number → n ≡ m
 settings-told-unique book saved s p q = p ∙ sym q
 
-pub delay-unique : (book saved : List ℕ) (s : OurSeid) {h k : HeardBy} → Hears book saved s h → Hears book saved s k → h ≡ k
-delay-unique book saved s p q =
-    ap (λ (x : Heard). record { number = x .number; reported = x .reported; tenths = x .tenths }) (p ∙ sym q)
+pub delay-unique : (book saved : List ℕ) (s : OurSeid) {h k : Heard} → Hears book saved s h → Hears book saved s k → h ≡ k
+delay-unique book saved s p q = p ∙ sym q
 
 pub status-unique : (book saved : List ℕ) (s : OurSeid) {t u : Standing} → t ≡ statusCall book saved s
   → u ≡ statusCall book saved s → t ≡ u
@@ -58,9 +51,8 @@ status-unique book saved s p q = p ∙ sym q
 pub packets-unique : (size length : ℕ) {n m : ℕ} → n ≡ packetsCall size length → m ≡ packetsCall size length → n ≡ m
 packets-unique size length p q = p ∙ sym q
 
-pub cut-unique : (size label kind signal : ℕ) (payload : List ℕ) (index : ℕ) (area : List ℕ) {c d : Piece} {a b : List ℕ}
-  → Cuts size label kind signal payload index area c a → Cuts size label kind signal payload index area d b → (c ≡ d) × (a ≡ b)
-unfolding cutBy
-cut-unique size label kind signal payload index area p q =
+pub cut-unique : (size label mtype signal : ℕ) (payload : List ℕ) (index : ℕ) (area : List ℕ) {c d : Piece} {a b : List ℕ}
+  → Cuts size label mtype signal payload index area c a → Cuts size label mtype signal payload index area d b → (c ≡ d) × (a ≡ b)
+cut-unique size label mtype signal payload index area p q =
     let e = p ∙ sym q in
-    (ap (λ (x : Cut). record { number = x .number; length = x .length }) e, ap (λ (x : Cut). x .area) e)
+    (ap (λ (x : Cut). x .piece) e, ap (λ (x : Cut). x .area) e)

@@ -3,11 +3,10 @@ use rules::Delay;
 use rules::Heard;
 
 ghost use mathlib.Core.Path.{_≡_};
-ghost use Rattle.rules.specs.Answers.{heardBy};
 ghost use Rattle.rules.specs.Host.{heard as hearing};
 
 pub fn heard(number: u8, delay: Delay) -> Heard
-    ensures { λ r. ⌜ heardBy r ≡ hearing number delay ⌝ }
+    ensures { λ r. ⌜ r ≡ hearing number delay ⌝ }
 {
     match delay {
         Delay::Unreported => Heard {

@@ -143,8 +143,8 @@ pub fn packets(size: usize, length: usize) -> usize
 }
 
 // Writes packet number `index` of a message, counted from 0, at the front of `area`.
-pub fn cut(size: usize, label: u8, kind: u8, signal: u8, payload: &[u8], index: usize, area: &mut [u8]) -> Piece
-    ensures { λ r. ⌜ Cuts size label kind signal (now (payload .entry)) index (now (area .entry)) r (now (area .exit)) ⌝ }
+pub fn cut(size: usize, label: u8, mtype: u8, signal: u8, payload: &[u8], index: usize, area: &mut [u8]) -> Piece
+    ensures { λ r. ⌜ Cuts size label mtype signal (now (payload .entry)) index (now (area .entry)) r (now (area .exit)) ⌝ }
 {
-    packets_cut::cut(size, label, kind, signal, payload, index, area)
+    packets_cut::cut(size, label, mtype, signal, payload, index, area)
 }

@@ -8,30 +8,30 @@ use saved::parts::records_of;
 ghost use Rattle.bridge.specs.Calls.{Finds};
 
 // A refusal has the head of an idle endpoint, of which no question shows the SEID.
-pub struct Numbered {
+pub struct NumberedHead {
     pub number: u8,
     pub head: Head,
 }
 
-pub fn ask(book: &[u8], saved: &[u8], seid: OurSeid) -> Numbered
+pub fn ask(book: &[u8], saved: &[u8], seid: OurSeid) -> NumberedHead
     ensures { λ r. ⌜ Finds (now (book .entry)) (now (saved .entry)) seid r ⌝ }
 {
     let number = crate::refusals::refusal(book, saved);
     if number != 0 {
-        return Numbered {
+        return NumberedHead {
             number,
             head: idle(seid),
         };
     }
     let located = book::places::locate(book, seid);
     match located {
-        Located::Unknown => Numbered {
+        Located::Unknown => NumberedHead {
             number: 10,
             head: idle(seid),
         },
         Located::Known(place) => {
             let index = place.index;
-            Numbered {
+            NumberedHead {
                 number: 0,
                 head: saved::records::get(records_of(saved), index),
             }

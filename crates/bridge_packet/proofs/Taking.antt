@@ -12,17 +12,19 @@ use Rattle.rules.specs.Octets.{front, octetsIn}
 use Rattle.rules.specs.Book.{bookOf}
 use Rattle.rules.specs.Packets.{Message, gather}
 use Rattle.rules.specs.Endpoints.{Ends}
-use Rattle.rules.specs.Saved.{recordsPlace, areaFor, countIn, linkOf, recordsOf, gatheringAt, gatheringIn, endsIn, connectionIn}
+use Rattle.rules.specs.Saved.{recordsPlace, areaFor, countIn, linkOf, recordsOf, gatheringAt, gatheringIn, endsIn}
+use Rattle.rules.specs.Saved.{connectionIn}
 use Rattle.rules.specs.Saved.{store}
-use Rattle.rules.specs.Host.{Told, nothingSaid, turnOf, takes, Answered}
-use Rattle.rules.specs.Wires.{nextOf}
-use Rattle.rules.specs.declared.Next.the-variants.{Single, Complete}
+use Rattle.rules.specs.Host.{nothingSaid, turnOf, takes, Answered}
+use Rattle.packets_gather.specs.Nexts.{nextOf}
+use Rattle.packets_gather.specs.declared.nexts.Next.the-variants.{Single, Complete}
 use Rattle.rules.proofs.SavedReads.{ends-kept, length-endsIn}
 use Rattle.rules.proofs.Refused.{nothing-written}
 use Rattle.rules.proofs.Places.{legal-length}
 use Rattle.rules.proofs.StaysLegal.{legal-ends, takes-legal}
 use Rattle.rules.proofs.SavedStaysRight.{right-legal}
 use Rattle.rules.specs.Commands.{answer}
+use Rattle.rules.specs.declared.Told.{Told}
 use Rattle.saved.specs.Serves.{Serves}
 use Rattle.packets_gather.specs.Rooms.{RoomRight}
 use Rattle.packets_gather.proofs.Rooms.{room-kept}
@@ -142,12 +144,12 @@ module _ (book : List ℕ) (size : ℕ) (saved p reply : List ℕ) (may : Takes 
         single-serves = rw (e, lent) (after-long, may-serve (drop 2 p) (single s .fits))
 
         pub single-done : (a : Answered)
-          → a ≡ served book (record { label = l; type = t; signal = n; payload = payload }) after reply
+          → a ≡ served book (record { label = l; mtype = t; signal = n; payload = payload }) after reply
           → a ≡ taken book size saved p reply
         single-done a f =
             f
-            ∙ (λ k. served book (record { label = l; type = t; signal = n; payload = lent k }) (e k) reply)
-            ∙ serves-it (record { label = l; type = t; signal = n; payload = drop 2 p }) (single s .done)
+            ∙ (λ k. served book (record { label = l; mtype = t; signal = n; payload = lent k }) (e k) reply)
+            ∙ serves-it (record { label = l; mtype = t; signal = n; payload = drop 2 p }) (single s .done)
 
       whole : nextOf size (gatheringIn room) p ≡ Complete l t n
         → Assembled l t n p (linkOf after) (gather size (gatheringIn room) p .done)
@@ -174,12 +176,12 @@ module _ (book : List ℕ) (size : ℕ) (saved p reply : List ℕ) (may : Takes 
           }
 
       pub joined-done : (a : Answered) → nextOf size (gatheringIn room) p ≡ Complete l t n
-        → a ≡ served book (record { label = l; type = t; signal = n; payload = joined after p }) after reply
+        → a ≡ served book (record { label = l; mtype = t; signal = n; payload = joined after p }) after reply
         → a ≡ taken book size saved p reply
       unfolding joined
       joined-done a s f =
           f
           ∙ ap
-              (λ (x : List ℕ). served book (record { label = l; type = t; signal = n; payload = joined after p }) x reply)
+              (λ (x : List ℕ). served book (record { label = l; mtype = t; signal = n; payload = joined after p }) x reply)
               e
-          ∙ serves-it (record { label = l; type = t; signal = n; payload = joined after p }) (whole s .message)
+          ∙ serves-it (record { label = l; mtype = t; signal = n; payload = joined after p }) (whole s .message)

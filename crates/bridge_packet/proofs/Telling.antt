@@ -8,9 +8,10 @@ use Rattle.rules.specs.Book.{bookOf}
 use Rattle.rules.specs.Packets.{Message}
 use Rattle.rules.specs.Saved.{recordsPlace, recordsOf, endsIn}
 use Rattle.rules.specs.Commands.{Reply, silence, generalReject, accept, reject, Outcome, answer}
-use Rattle.rules.specs.Host.{Told, nothingSaid, said, toldOf, Answered}
-use Rattle.rules.specs.Answers.{saidOf, Did, did}
-use Rattle.rules.specs.declared.Said.{Said}
+use Rattle.rules.specs.Host.{nothingSaid, said, toldOf, Answered}
+use Rattle.rules.specs.declared.Told.{Told}
+use Rattle.commands_reply.specs.Answers.{saidOf, Did, did}
+use Rattle.commands_reply.specs.declared.Said.{Said}
 use Rattle.saved.specs.Serves.{Serves}
 use Rattle.commands_reply.specs.Obeys.{Obeys}
 use Rattle.commands.specs.Messages.{answering}
@@ -32,14 +33,14 @@ module _ (book saved payload reply : List ℕ) where
   unfolding recordsOf
   whole-serves h = rw (behind-whole recordsPlace saved) h
 
-  module _ (label kind signal : ℕ) (words : Said) (told : Told) (records′ reply′ : List ℕ) where
+  module _ (label mtype signal : ℕ) (words : Said) (told : Told) (records′ reply′ : List ℕ) where
     abbrev message : Message
-    message = record { label = label; type = kind; signal = signal; payload = payload }
+    message = record { label = label; mtype = mtype; signal = signal; payload = payload }
 
     abbrev outcome : Outcome
     outcome = answer (bookOf book) (endsIn (length (bookOf book)) (drop recordsPlace saved)) message
 
-    pub as-served : Obeys (answering kind signal) book records payload reply words records′ reply′
+    pub as-served : Obeys (answering mtype signal) book records payload reply words records′ reply′
       → told ≡ spoken label signal words
       → _≡_ {A = Answered}
           (record { told = told; saved = take recordsPlace saved ++
@@ -48,7 +49,7 @@ module _ (book saved payload reply : List ℕ) where
     unfolding served did answer recordsOf
     as-served e t =
         let f =
-          subst (λ (x : List ℕ). Obeys (answering kind signal) book x payload reply words records′ reply′)
+          subst (λ (x : List ℕ). Obeys (answering mtype signal) book x payload reply words records′ reply′)
             (behind-whole recordsPlace saved) e in
         let spoke = t ∙ ap (λ (d : Did). spoken label signal (d .said)) f ∙ told-reply message (outcome .reply) in
         let stored = tail-back recordsPlace saved records′ ∙ ap (λ (d : Did). take recordsPlace saved ++ d .records) f in

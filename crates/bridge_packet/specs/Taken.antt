@@ -3,17 +3,19 @@ use Prim.Native.Nat.{ℕ, _+_, _≤_}
 use mathlib.Core.Path.{_≡_}
 use mathlib.Core.List.{List, _++_}
 use mathlib.Core.Bool.{true}
-use lib.ListN.{length, take, drop, getD}
+use lib.ListN.{length, take, drop}
 use lib.Dec.{eqb}
 use Rattle.rules.specs.Octets.{if_then_else_, front}
 use Rattle.rules.specs.Book.{bookNumber, bookOf}
 use Rattle.rules.specs.Packets.{Message, gather}
-use Rattle.rules.specs.Saved.{countRoom, recordsPlace, linkOf, recordsOf, pairIn, gatheringAt, gatheringIn, storeGathering}
+use Rattle.rules.specs.Saved.{countRoom, recordsPlace, linkOf, recordsOf, payloadLengthIn, gatheringAt, gatheringIn}
+use Rattle.rules.specs.Saved.{storeGathering}
 use Rattle.rules.specs.Saved.{endsIn, storeEnds, connectionIn, store}
 use Rattle.rules.specs.Saved.{savedRight}
 use Rattle.rules.specs.Commands.{answer}
-use Rattle.rules.specs.Host.{Told, nothingSaid, toldOf, payloadOf, takes, Answered}
-use Rattle.rules.specs.declared.Said.{Said}
+use Rattle.rules.specs.Host.{nothingSaid, toldOf, payloadOf, takes, Answered}
+use Rattle.rules.specs.declared.Told.{Told}
+use Rattle.commands_reply.specs.declared.Said.{Said}
 use Rattle.saved.specs.Serves.{Serves}
 
 -- a right book, a right saved area over it, and room for every reply
@@ -25,8 +27,8 @@ pub record Takes (book saved reply : List ℕ) : Type 0 where
 -- what is told of what a command says
 unfoldable pub spoken : ℕ → ℕ → Said → Told
 spoken label signal said =
-    if eqb (said .kind) 0 then nothingSaid 0
-    else record { number = 0; label = label; type = said .kind; signal = signal; length = said .length }
+    if eqb (said .mtype) 0 then nothingSaid 0
+    else record { number = 0; label = label; mtype = said .mtype; signal = signal; length = said .length }
 
 -- the saved area with another link part
 unfoldable pub withLink : List ℕ → List ℕ → List ℕ
@@ -45,7 +47,7 @@ joined saved p = gatheringAt (linkOf saved) .message .payload ++ drop 1 p
 pub record Joins (book saved p reply : List ℕ) : Type 0 where
   pub long : recordsPlace ≤ length saved
   pub header : 1 ≤ length p
-  pub gathered : pairIn (getD (linkOf saved) 6 0) (getD (linkOf saved) 7 0) ≤ 512
+  pub gathered : payloadLengthIn (linkOf saved) ≤ 512
   pub fits : length (gatheringAt (linkOf saved) .message .payload) + length (drop 1 p) ≤ 512
   pub serves : Serves book (recordsOf saved) (joined saved p) reply
 

@@ -1,6 +1,6 @@
 // A packet taken on a legal connection: it is gathered, and a message that it completes is answered.
-use rules::Next;
-use rules::Said;
+use packets_gather::nexts::Next;
+use commands_reply::Said;
 use rules::Told;
 use rules::layout::COUNT;
 use rules::layout::RECORDS;
@@ -11,20 +11,19 @@ ghost use Prim.Native.Nat.{_≤_};
 ghost use lib.ListN.{length, take};
 ghost use Rattle.rules.specs.Saved.{recordsPlace, linkOf, recordsOf, gatheringIn};
 ghost use Rattle.rules.specs.Host.{nothingSaid, Answered};
-ghost use Rattle.rules.specs.Wires.{nextOf};
-ghost use Rattle.rules.specs.Answers.{toldBy};
+ghost use Rattle.packets_gather.specs.Nexts.{nextOf};
 ghost use Rattle.saved.specs.Serves.{Serves};
 ghost use Rattle.packets_gather.specs.Rooms.{RoomRight};
 ghost use Rattle.bridge_packet.specs.Taken.{Takes, Joins, spoken, joined, areaAfter, served, taken};
 
 // A refusal, or silence, whose number is 0.
 pub fn nothing(number: u8) -> Told
-    ensures { λ r. ⌜ toldBy r ≡ nothingSaid number ⌝ }
+    ensures { λ r. ⌜ r ≡ nothingSaid number ⌝ }
 {
     Told {
         number,
         label: 0,
-        kind: 0,
+        mtype: 0,
         signal: 0,
         length: 0,
     }
@@ -32,15 +31,15 @@ pub fn nothing(number: u8) -> Told
 
 // What is said, with the label and the signal of the message that it answers.
 fn tell(label: u8, signal: u8, said: Said) -> Told
-    ensures { λ r. ⌜ toldBy r ≡ spoken label signal said ⌝ }
+    ensures { λ r. ⌜ r ≡ spoken label signal said ⌝ }
 {
-    if said.kind == 0 {
+    if said.mtype == 0 {
         return nothing(0);
     }
     Told {
         number: 0,
         label,
-        kind: said.kind,
+        mtype: said.mtype,
         signal,
         length: said.length,
     }
@@ -56,39 +55,39 @@ fn gathered(saved: &mut [u8], size: usize, packet: &[u8]) -> Next
 }
 
 // Answers a message over the records.
-fn serve(label: u8, kind: u8, signal: u8, book: &[u8], saved: &mut [u8], payload: &[u8], reply: &mut [u8]) -> Told
+fn serve(label: u8, mtype: u8, signal: u8, book: &[u8], saved: &mut [u8], payload: &[u8], reply: &mut [u8]) -> Told
     requires { ⌜ (recordsPlace ≤ length (now saved)) × Serves (now book) (recordsOf (now saved)) (now payload) (now reply) ⌝ }
-    ensures { λ r. ⌜ _≡_ {A = Answered} (record { told = toldBy r; saved = now (saved .exit); reply = now (reply .exit) })
-        (served (now (book .entry)) (record { label = label; type = kind; signal = signal; payload = now (payload .entry) })
+    ensures { λ r. ⌜ _≡_ {A = Answered} (record { told = r; saved = now (saved .exit); reply = now (reply .exit) })
+        (served (now (book .entry)) (record { label = label; mtype = mtype; signal = signal; payload = now (payload .entry) })
           (now (saved .entry)) (now (reply .entry))) ⌝ }
 {
-    let said = commands::answer(kind, signal, book, &mut saved[RECORDS..], payload, reply);
+    let said = commands::answer(mtype, signal, book, &mut saved[RECORDS..], payload, reply);
     tell(label, signal, said)
 }
 
 // Answers a message whose last part is in the packet and whose other parts are gathered.
-fn serve_joined(label: u8, kind: u8, signal: u8, book: &[u8], saved: &mut [u8], packet: &[u8], reply: &mut [u8]) -> Told
+fn serve_joined(label: u8, mtype: u8, signal: u8, book: &[u8], saved: &mut [u8], packet: &[u8], reply: &mut [u8]) -> Told
     requires { ⌜ Joins (now book) (now saved) (now packet) (now reply) ⌝ }
-    ensures { λ r. ⌜ _≡_ {A = Answered} (record { told = toldBy r; saved = now (saved .exit); reply = now (reply .exit) })
+    ensures { λ r. ⌜ _≡_ {A = Answered} (record { told = r; saved = now (saved .exit); reply = now (reply .exit) })
         (served (now (book .entry))
-          (record { label = label; type = kind; signal = signal; payload = joined (now (saved .entry)) (now (packet .entry)) })
+          (record { label = label; mtype = mtype; signal = signal; payload = joined (now (saved .entry)) (now (packet .entry)) })
           (now (saved .entry)) (now (reply .entry))) ⌝ }
 {
     let mut message = [0u8; 512];
     let length = packets_gather::assemble(&mut message, link_of(saved), packet);
-    serve(label, kind, signal, book, saved, &message[0..length], reply)
+    serve(label, mtype, signal, book, saved, &message[0..length], reply)
 }
 
 // Takes a packet.
 pub fn take(book: &[u8], size: usize, saved: &mut [u8], packet: &[u8], reply: &mut [u8]) -> Told
     requires { ⌜ Takes (now book) (now saved) (now reply) ⌝ }
-    ensures { λ r. ⌜ _≡_ {A = Answered} (record { told = toldBy r; saved = now (saved .exit); reply = now (reply .exit) })
+    ensures { λ r. ⌜ _≡_ {A = Answered} (record { told = r; saved = now (saved .exit); reply = now (reply .exit) })
         (taken (now (book .entry)) size (now (saved .entry)) (now (packet .entry)) (now (reply .entry))) ⌝ }
 {
     let then = gathered(saved, size, packet);
     match then {
-        Next::Single { label, kind, signal } => serve(label, kind, signal, book, saved, &packet[2..], reply),
-        Next::Complete { label, kind, signal } => serve_joined(label, kind, signal, book, saved, packet, reply),
+        Next::Single { label, mtype, signal } => serve(label, mtype, signal, book, saved, &packet[2..], reply),
+        Next::Complete { label, mtype, signal } => serve_joined(label, mtype, signal, book, saved, packet, reply),
         _ => nothing(0),
     }
 }

@@ -12,9 +12,7 @@ use Rattle.rules.specs.Book.{bookNumber, bookOf}
 use Rattle.rules.specs.Packets.{Message, gather}
 use Rattle.rules.specs.Endpoints.{endAt, idle}
 use Rattle.rules.specs.Saved.{connectionIn, savedRight}
-use Rattle.rules.specs.Host.{Kept, Told, nothingSaid, Answered, packetCall}
-use Rattle.rules.specs.Wires.{cutBy}
-use Rattle.rules.specs.Answers.{toldBy}
+use Rattle.rules.specs.Host.{Kept, nothingSaid, Answered, packetCall}
 use Rattle.rules.specs.Sessions
 use Rattle.rules.specs.Sessions.{check, fresh, packet, event, settings, delay, packets, cut, number, told, shown, heard}
 use Rattle.rules.specs.Sessions.{counted, cutOff, Done, kept, answered, call, answers, after, stands, status}
@@ -23,7 +21,7 @@ use Rattle.rules.specs.Moves.{shifts, shiftsIn, StoppedSeen}
 use Rattle.rules.specs.Alike.{alike, restrained, Begins, begun, lost, cleared, compared}
 use Rattle.rules.specs.declared.State.the-variants.{Idle}
 use Rattle.rules.specs.declared.Event.the-variants.{Lost}
-use Rattle.rules.specs.declared.Told.{Told as ToldBy}
+use Rattle.rules.specs.declared.Told.{Told}
 use Rattle.rules.proofs.LentAreas.{front-read}
 use Rattle.rules.proofs.SavedStaysRight.{always-legal}
 use Rattle.rules.proofs.Never12.{none-answers-12}
@@ -42,7 +40,7 @@ use Rattle.bridge_step.specs.Hosts.{Asked, callOf, askedOf, readBy, Runs
 
 -- what the host reads of a step is what the definitions answer
 answer-read : (a : Sessions.Answer) (area room : List ℕ) → readBy (answerIn a) (areaAfter a area) (roomAfter a room) ≡ a
-unfolding readBy answerIn areaAfter roomAfter cutBy
+unfolding readBy answerIn areaAfter roomAfter
 answer-read (number n) area room = refl
 answer-read (told t reply) area room = refl
 answer-read (shown s) area room =
@@ -168,9 +166,9 @@ toldIn (stands t) = nothingSaid 0
 toldIn (counted n) = nothingSaid 0
 toldIn (cutOff c) = nothingSaid 0
 
-packet-made : (book saved p reply room : List ℕ) (size : ℕ) (t : ToldBy) (next reply′ room′ : List ℕ)
+packet-made : (book saved p reply room : List ℕ) (size : ℕ) (t : Told) (next reply′ room′ : List ℕ)
   → Steps book saved (Call.Packet size) p reply room (Answer.Told t) next reply′ room′
-  → _≡_ {A = Answered} (record { told = toldBy t; saved = next; reply = reply′ }) (packetCall book size saved p reply)
+  → _≡_ {A = Answered} (record { told = t; saved = next; reply = reply′ }) (packetCall book size saved p reply)
 unfolding exitOf callBy call answered answerIn areaAfter readBy toldIn
 packet-made book saved p reply room size t next reply′ room′ e =
     ap (λ (x : Exit). record { told = toldIn (readBy (x .answer) [] []); saved = x .saved; reply = x .area }) e
@@ -178,32 +176,32 @@ packet-made book saved p reply room size t next reply′ room′ e =
 -- A packet that completes no Start and no Suspend and is not answered with an accept moves no endpoint.
 pub hosts-unmoved : (book saved : List ℕ) (asks : List Asked) (said : List Sessions.Answer) (last : List ℕ) → bookNumber book ≡ 0
   → savedRight (bookOf book) saved ≡ true → Runs book saved asks said last
-  → (size : ℕ) (p reply room : List ℕ) (t : ToldBy) (next reply′ room′ : List ℕ)
+  → (size : ℕ) (p reply room : List ℕ) (t : Told) (next reply′ room′ : List ℕ)
   → Steps book last (Call.Packet size) p reply room (Answer.Told t) next reply′ room′
-  → shiftsIn (gather size (connectionIn (length (bookOf book)) last .link .gathering) p .done) ≡ false → (t .kind ≡ 2 → ⊥)
+  → shiftsIn (gather size (connectionIn (length (bookOf book)) last .link .gathering) p .done) ≡ false → (t .mtype ≡ 2 → ⊥)
   → connectionIn (length (bookOf book)) next .ends ≡ connectionIn (length (bookOf book)) last .ends
 hosts-unmoved book saved asks said last ok right runs size p reply room t next reply′ room′ step other refused =
     let legal = hosts-legal book saved asks said last ok right runs .right in
     let e = packet-made book last p reply room size t next reply′ room′ step in
     ap (λ (a : Answered). connectionIn (length (bookOf book)) (a .saved) .ends) e
-    ∙ packet-unmoved book size last p reply ok legal other (λ k. refused (ap (λ (a : Answered). a .told .type) e ∙ k))
+    ∙ packet-unmoved book size last p reply ok legal other (λ k. refused (ap (λ (a : Answered). a .told .mtype) e ∙ k))
 
 -- A Start or a Suspend that a packet completes after any run and that is answered with a reject has moved exactly the endpoints
 -- listed before the one that failed, and the reply names it.
 pub hosts-stopped : (book saved : List ℕ) (asks : List Asked) (said : List Sessions.Answer) (last : List ℕ) → bookNumber book ≡ 0
   → savedRight (bookOf book) saved ≡ true → Runs book saved asks said last
-  → (size : ℕ) (p reply room : List ℕ) (t : ToldBy) (next reply′ room′ : List ℕ)
+  → (size : ℕ) (p reply room : List ℕ) (t : Told) (next reply′ room′ : List ℕ)
   → Steps book last (Call.Packet size) p reply room (Answer.Told t) next reply′ room′
   → (m : Message) → gather size (connectionIn (length (bookOf book)) last .link .gathering) p .done ≡ some m → shifts m ≡ true
-  → isEmpty (m .payload) ≡ false → t .kind ≡ 3
+  → isEmpty (m .payload) ≡ false → t .mtype ≡ 3
   → StoppedSeen (bookOf book) (connectionIn (length (bookOf book)) last .ends) reply m
-      (record { told = toldBy t; saved = next; reply = reply′ })
+      (record { told = t; saved = next; reply = reply′ })
 hosts-stopped book saved asks said last ok right runs size p reply room t next reply′ room′ step m done shift lists rejected =
     let legal = hosts-legal book saved asks said last ok right runs .right in
     let e = packet-made book last p reply room size t next reply′ room′ step in
     subst (StoppedSeen (bookOf book) (connectionIn (length (bookOf book)) last .ends) reply m) (sym e)
       (packet-stopped book size last p reply ok legal m done shift lists
-         (sym (ap (λ (a : Answered). a .told .type) e) ∙ rejected))
+         (sym (ap (λ (a : Answered). a .told .mtype) e) ∙ rejected))
 
 -- ---- Demand 3 of what runs
 

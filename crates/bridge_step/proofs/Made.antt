@@ -4,21 +4,21 @@ use mathlib.Core.Path.{_≡_, sym, ap, ap₂, _∙_}
 use mathlib.Core.List.{List}
 use lib.ListN.{length}
 use Rattle.rules.specs.Octets.{front}
-use Rattle.rules.specs.Host.{checkCall, Kept, Answered, settingsCall, Heard, statusCall, packetsCall, Cut}
-use Rattle.rules.specs.Wires.{cutBy}
+use Rattle.rules.specs.Host.{checkCall, Kept, Answered, settingsCall, statusCall, packetsCall, Cut}
 use Rattle.rules.specs.Sessions.{kept, answered, asked, call}
 use Rattle.rules.specs.declared.OurSeid.{OurSeid}
 use Rattle.rules.specs.declared.Event.{Event}
-use Rattle.rules.specs.declared.Told.{Told as ToldBy}
-use Rattle.rules.specs.declared.Heard.{Heard as HeardBy}
 use Rattle.rules.specs.declared.Piece.{Piece}
 use Rattle.rules.specs.declared.Standing.{Standing}
+use Rattle.rules.specs.declared.Heard.{Heard}
+use Rattle.rules.specs.declared.Told.{Told}
 use Rattle.octets.specs.Patch.{patch}
 use Rattle.octets.proofs.Patches.{front-patch}
 use Rattle.bridge.specs.Calls.{Freshens, Takes, Happens, Hears, Cuts}
 use Rattle.bridge_step.specs.declared.Call.{Call}
 use Rattle.bridge_step.specs.declared.Call.the-variants as Call
-use Rattle.bridge_step.specs.declared.Answer.the-variants.{Number, Told, Shown, Heard as HeardIt, Stands, Counted, CutOff}
+use Rattle.bridge_step.specs.declared.Answer.the-variants.{Number, Told as ToldIt, Shown, Heard as HeardIt, Stands}
+use Rattle.bridge_step.specs.declared.Answer.the-variants.{Counted, CutOff}
 use Rattle.bridge_step.specs.Steps.{callBy, answerIn, areaAfter, roomAfter, exitOf, Steps, Copied, copiedOf}
 
 module _ (book saved : List ℕ) (k : Call) (input area room : List ℕ) where
@@ -32,27 +32,12 @@ module _ (book saved : List ℕ) (k : Call) (input area room : List ℕ) where
   freshens is n next e =
       rw is (ap (λ (x : Kept). record { answer = Number (x .number); saved = x .saved; area = area; room = room }) e)
 
-  pub takes : (size : ℕ) → k ≡ Call.Packet size → (t : ToldBy) (next reply : List ℕ)
+  pub takes : (size : ℕ) → k ≡ Call.Packet size → (t : Told) (next reply : List ℕ)
     → Takes book size saved input area t next reply
-    → Steps book saved k input area room (Told t) next reply room
+    → Steps book saved k input area room (ToldIt t) next reply room
   unfolding exitOf callBy call answered answerIn areaAfter roomAfter
   takes size is t next reply e =
-      rw is (ap (λ (a : Answered).
-            record {
-              answer =
-                Told
-                  (record {
-                     number = a .told .number;
-                     label = a .told .label;
-                     kind = a .told .type;
-                     signal = a .told .signal;
-                     length = a .told .length
-                   });
-              saved = a .saved;
-              area = a .reply;
-              room = room
-            })
-        e)
+      rw is (ap (λ (a : Answered). record { answer = ToldIt (a .told); saved = a .saved; area = a .reply; room = room }) e)
 
   pub happens : (v : Event) → k ≡ Call.Event v → (n : ℕ) (next : List ℕ) → Happens book saved v n next
     → Steps book saved k input area room (Number n) next area room
@@ -74,37 +59,23 @@ module _ (book saved : List ℕ) (k : Call) (input area room : List ℕ) where
   unfolding exitOf callBy call asked answerIn areaAfter roomAfter
   stands s is t e = rw is (ap (λ (x : Standing). record { answer = Stands x; saved = saved; area = area; room = room }) e)
 
-  pub hears : (s : OurSeid) → k ≡ Call.Delay s → (h : HeardBy) → Hears book saved s h
+  pub hears : (s : OurSeid) → k ≡ Call.Delay s → (h : Heard) → Hears book saved s h
     → Steps book saved k input area room (HeardIt h) saved area room
   unfolding exitOf callBy call asked answerIn areaAfter roomAfter
   hears s is h e =
-      rw is (ap (λ (x : Heard).
-            record {
-              answer = HeardIt (record { number = x .number; reported = x .reported; tenths = x .tenths });
-              saved = saved;
-              area = area;
-              room = room
-            })
-        e)
+      rw is (ap (λ (x : Heard). record { answer = HeardIt x; saved = saved; area = area; room = room }) e)
 
   pub counts : (size n : ℕ) → k ≡ Call.Packets size n → (many : ℕ) → many ≡ packetsCall size n
     → Steps book saved k input area room (Counted many) saved area room
   unfolding exitOf callBy call asked answerIn areaAfter roomAfter
   counts size n is many e = rw is (ap (λ (x : ℕ). record { answer = Counted x; saved = saved; area = area; room = room }) e)
 
-  pub cuts : (size label kind signal index : ℕ) → k ≡ Call.Cut size label kind signal index → (piece : Piece) (area′ : List ℕ)
-    → Cuts size label kind signal input index area piece area′
+  pub cuts : (size label mtype signal index : ℕ) → k ≡ Call.Cut size label mtype signal index → (piece : Piece) (area′ : List ℕ)
+    → Cuts size label mtype signal input index area piece area′
     → Steps book saved k input area room (CutOff piece) saved area′ room
-  unfolding exitOf callBy call asked answerIn areaAfter roomAfter cutBy
-  cuts size label kind signal index is piece area′ e =
-      rw is (ap (λ (x : Cut).
-            record {
-              answer = CutOff (record { number = x .number; length = x .length });
-              saved = saved;
-              area = x .area;
-              room = room
-            })
-        e)
+  unfolding exitOf callBy call asked answerIn areaAfter roomAfter
+  cuts size label mtype signal index is piece area′ e =
+      rw is (ap (λ (x : Cut). record { answer = CutOff (x .piece); saved = saved; area = x .area; room = room }) e)
 
 -- the part that `settings` shows, copied to the front of the room
 pub copies : (book saved : List ℕ) (s : OurSeid) (part room room′ : List ℕ) → part ≡ settingsCall book saved s .part

@@ -18,7 +18,7 @@ area = replicate 64 0
 
 -- a message of 47 octets, which takes two packets of 48
 abbrev longer : Message
-longer = record { label = 1; type = 2; signal = 12; payload = replicate 47 0xAB }
+longer = record { label = 1; mtype = 2; signal = 12; payload = replicate 47 0xAB }
 
 -- Set Configuration for the trace book's first endpoint, Get Configuration and Open for it, and the first packet of the message
 unfoldable pub session : List Call
@@ -34,14 +34,14 @@ unfoldable pub sessionAnswers : List Answer
 sessionAnswers =
     number 0
     -- accepted: not a bridge that rejects everything, nor one that is always silent
-    ∷ told (record { number = 0; label = 4; type = 2; signal = 3; length = 0 }) area
+    ∷ told (record { number = 0; label = 4; mtype = 2; signal = 3; length = 0 }) area
     -- the configuration is there: not a bridge that accepts and moves no endpoint, which would say 31h
-    ∷ told (record { number = 0; label = 5; type = 2; signal = 4; length = 12 })
+    ∷ told (record { number = 0; label = 5; mtype = 2; signal = 4; length = 12 })
         (0x01 ∷ 0x00 ∷ 0x07 ∷ 0x06 ∷ 0x00 ∷ 0x00 ∷ 0x21 ∷ 0x15 ∷ 0x02 ∷ 0x35 ∷ 0x08 ∷ 0x00 ∷ replicate 52 0)
     -- answered too: not a bridge that serves the first command and ignores later ones
-    ∷ told (record { number = 0; label = 6; type = 2; signal = 6; length = 0 }) area
+    ∷ told (record { number = 0; label = 6; mtype = 2; signal = 6; length = 0 }) area
     -- the packet count is 2: not a bridge that writes a count not its own
-    ∷ cutOff (record { number = 0; length = 48; area = 0x16 ∷ 0x02 ∷ 0x0C ∷ replicate 45 0xAB })
+    ∷ cutOff (record { piece = record { number = 0; length = 48 }; area = 0x16 ∷ 0x02 ∷ 0x0C ∷ replicate 45 0xAB })
     ∷ []
 
 pub shut-out : (room last : List ℕ) (answers : List Answer)

@@ -10,13 +10,12 @@ use Rattle.rules.specs.Book.{bookOf}
 use Rattle.rules.specs.Saved.{connectionIn, savedRight}
 use Rattle.rules.specs.Listed.{is12}
 use Rattle.rules.specs.Alike.{noneReported, compared}
-use Rattle.rules.specs.Wires.{cutBy}
-use Rattle.rules.specs.Answers.{toldBy, heardBy}
 use Rattle.rules.specs.Sessions
 use Rattle.rules.specs.Sessions.{check, fresh, packet, event, settings, delay, packets, cut, number, told, shown, heard}
 use Rattle.rules.specs.Sessions.{status, stands, counted, cutOff}
 use Rattle.bridge_step.specs.declared.Call.{Call}
-use Rattle.bridge_step.specs.declared.Call.the-variants.{Check, Fresh, Packet, Event, Settings, Delay, Status, Packets, Cut}
+use Rattle.bridge_step.specs.declared.Call.the-variants.{Check, Fresh, Packet, Event, Settings, Delay, Status, Packets}
+use Rattle.bridge_step.specs.declared.Call.the-variants.{Cut}
 use Rattle.bridge_step.specs.declared.Answer.{Answer}
 use Rattle.bridge_step.specs.declared.Answer.the-variants.{Number, Told, Shown, Heard, Stands, Counted, CutOff}
 use Rattle.bridge_step.specs.Steps.{callBy, Steps}
@@ -42,17 +41,17 @@ askedOf room (delay s) = record { call = Delay s; input = []; area = []; room = 
 askedOf room (status s) = record { call = Status s; input = []; area = []; room = room }
 askedOf room (packets size n) = record { call = Packets size n; input = []; area = []; room = room }
 askedOf room (cut size m k area) =
-    record { call = Cut size (m .label) (m .type) (m .signal) k; input = m .payload; area = area; room = room }
+    record { call = Cut size (m .label) (m .mtype) (m .signal) k; input = m .payload; area = area; room = room }
 
 -- what the host reads of an answer: its numbers, the lent area at exit, and the part at the front of the room
 unfoldable pub readBy : Answer → List ℕ → List ℕ → Sessions.Answer
 readBy (Number n) area room = number n
-readBy (Told t) area room = told (toldBy t) area
+readBy (Told t) area room = told t area
 readBy (Shown n size) area room = shown (record { number = n; part = take size room })
-readBy (Heard h) area room = heard (heardBy h)
+readBy (Heard h) area room = heard h
 readBy (Stands t) area room = stands t
 readBy (Counted n) area room = counted n
-readBy (CutOff piece) area room = cutOff (cutBy piece area)
+readBy (CutOff piece) area room = cutOff (record { piece = piece; area = area })
 
 -- a row of steps: the answers as they are read, and the saved area after it
 pub data Runs (book : List ℕ) : List ℕ → List Asked → List Sessions.Answer → List ℕ → Type 0 where

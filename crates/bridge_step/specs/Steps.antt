@@ -11,7 +11,8 @@ use Rattle.rules.specs.Sessions.{check, fresh, packet, event, settings, delay, 
 use Rattle.rules.specs.Sessions.{status, stands, counted, cutOff}
 use Rattle.rules.specs.declared.OurSeid.{OurSeid}
 use Rattle.bridge_step.specs.declared.Call.{Call}
-use Rattle.bridge_step.specs.declared.Call.the-variants.{Check, Fresh, Packet, Event, Settings, Delay, Status, Packets, Cut}
+use Rattle.bridge_step.specs.declared.Call.the-variants.{Check, Fresh, Packet, Event, Settings, Delay, Status, Packets}
+use Rattle.bridge_step.specs.declared.Call.the-variants.{Cut}
 use Rattle.bridge_step.specs.declared.Answer.{Answer}
 use Rattle.bridge_step.specs.declared.Answer.the-variants.{Number, Told, Shown, Heard, Stands, Counted, CutOff}
 
@@ -27,19 +28,18 @@ callBy (Settings s) input area = settings s
 callBy (Delay s) input area = delay s
 callBy (Status s) input area = status s
 callBy (Packets size length) input area = packets size length
-callBy (Cut size label kind signal index) input area =
-    cut size (record { label = label; type = kind; signal = signal; payload = input }) index area
+callBy (Cut size label mtype signal index) input area =
+    cut size (record { label = label; mtype = mtype; signal = signal; payload = input }) index area
 
 -- an answer: its numbers, and of the part that is shown the length
 unfoldable pub answerIn : Sessions.Answer → Answer
 answerIn (number n) = Number n
-answerIn (told t reply) =
-    Told (record { number = t .number; label = t .label; kind = t .type; signal = t .signal; length = t .length })
+answerIn (told t reply) = Told t
 answerIn (shown s) = Shown (s .number) (length (s .part))
-answerIn (heard h) = Heard (record { number = h .number; reported = h .reported; tenths = h .tenths })
+answerIn (heard h) = Heard h
 answerIn (stands t) = Stands t
 answerIn (counted n) = Counted n
-answerIn (cutOff c) = CutOff (record { number = c .number; length = c .length })
+answerIn (cutOff c) = CutOff (c .piece)
 
 -- ---- The areas at exit
 

@@ -21,7 +21,7 @@ pub enum Call {
     Delay(OurSeid),
     Status(OurSeid),
     Packets { size: usize, length: usize },
-    Cut { size: usize, label: u8, kind: u8, signal: u8, index: usize },
+    Cut { size: usize, label: u8, mtype: u8, signal: u8, index: usize },
 }
 
 // What a call answers. Of the part that `settings` shows the length is told; its octets stand at the front of a room of their
@@ -67,9 +67,9 @@ pub fn step(book: &[u8], saved: &mut [u8], call: Call, input: &[u8], area: &mut 
         Call::Cut {
             size,
             label,
-            kind,
+            mtype,
             signal,
             index,
-        } => Answer::CutOff(bridge::cut(size, label, kind, signal, input, index, area)),
+        } => Answer::CutOff(bridge::cut(size, label, mtype, signal, input, index, area)),
     }
 }

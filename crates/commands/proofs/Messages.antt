@@ -6,8 +6,8 @@ use borrow.Author.Tests.{eq-eqb, ne-eqb}
 use Rattle.rules.specs.Octets.{front}
 use Rattle.rules.specs.Commands.{silence, signalOf, obey, answer}
 use Rattle.rules.specs.Host.{payloadOf}
-use Rattle.rules.specs.Answers.{saidOf}
-use Rattle.rules.specs.declared.Said.{Said}
+use Rattle.commands_reply.specs.Answers.{saidOf}
+use Rattle.commands_reply.specs.declared.Said.{Said}
 use Rattle.saved.specs.Serves.{Serves}
 use Rattle.commands_reply.specs.Obeys.{Obeys}
 use Rattle.commands_reply.proofs.Serving.{obeys-stay}

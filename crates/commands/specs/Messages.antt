@@ -6,4 +6,4 @@ use Rattle.rules.specs.Endpoints.{Ends}
 use Rattle.rules.specs.Commands.{Outcome, answer}
 
 abbrev pub answering : ℕ → ℕ → Book → Ends → List ℕ → Outcome
-answering mtype signal book ends p = answer book ends (record { label = 0; type = mtype; signal = signal; payload = p })
+answering mtype signal book ends p = answer book ends (record { label = 0; mtype = mtype; signal = signal; payload = p })

@@ -4,7 +4,7 @@ use book::places::Place;
 use commands_checks::preambles::Met;
 use commands_checks::preambles::preamble;
 use commands_checks::tables::signal_of;
-use rules::Said;
+use commands_reply::Said;
 use rules::Signal;
 
 ghost use mathlib.Core.Path.{_≡_};

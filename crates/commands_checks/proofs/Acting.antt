@@ -9,8 +9,8 @@ use Rattle.rules.specs.Endpoints.{Endpoint}
 use Rattle.rules.specs.Saved.{storeEnds}
 use Rattle.rules.specs.Commands.{Reply, accept, Outcome, stays, moves, named, obey}
 use Rattle.rules.specs.Host.{payloadOf}
-use Rattle.rules.specs.Answers.{saidOf}
-use Rattle.rules.specs.declared.Said.{Said}
+use Rattle.commands_reply.specs.Answers.{saidOf}
+use Rattle.commands_reply.specs.declared.Said.{Said}
 use Rattle.rules.specs.declared.Signal.{Signal}
 use Rattle.book.specs.declared.places.Place.{Place}
 use Rattle.commands_reply.specs.Obeys.{endsOf, Obeys}

@@ -16,8 +16,10 @@ use Rattle.rules.specs.Commands.{Met as MetBy, refused, here, meets as meetsBy}
 use Rattle.rules.specs.declared.OurSeid.{OurSeid}
 use Rattle.rules.specs.declared.Head.{Head}
 use Rattle.rules.specs.declared.Signal.{Signal}
-use Rattle.rules.specs.declared.Signal.the-variants.{Discover, GetCapabilities, SetConfiguration, GetConfiguration, Reconfigure}
-use Rattle.rules.specs.declared.Signal.the-variants.{OpenUp, Start, Close, Suspend, Abort, SecurityControl, GetAllCapabilities}
+use Rattle.rules.specs.declared.Signal.the-variants.{Discover, GetCapabilities, SetConfiguration, GetConfiguration}
+use Rattle.rules.specs.declared.Signal.the-variants.{Reconfigure}
+use Rattle.rules.specs.declared.Signal.the-variants.{OpenUp, Start, Close, Suspend, Abort, SecurityControl}
+use Rattle.rules.specs.declared.Signal.the-variants.{GetAllCapabilities}
 use Rattle.rules.specs.declared.Signal.the-variants.{DelayReport, Unassigned}
 use Rattle.rules.proofs.Tests.{Told?, told, passed, failed, clash}
 use Rattle.rules.proofs.Places.{legal-at}
@@ -192,7 +194,8 @@ seen-place : (signal : Signal) (ends : Ends) (place : Located) (at : Place) → 
 unfolding metBy
 seen-place signal ends Unknown at e = let z : _≡_ {A = ℕ} 0 1 = cc in absurd (omega arith)
 seen-place signal ends (Known known) at e =
-    seen-may signal ends known at (told (may signal (endAt ends (known .index) .head .state) (endAt ends (known .index) .head .channel))) e
+    let h = endAt ends (known .index) .head in
+    seen-may signal ends known at (told (may signal (h .state) (h .channel))) e
 
 -- where a SEID that passed stands
 pub met-placed : (signal : Signal) (book records : List ℕ) (s : OurSeid) (at : Place) → bookNumber book ≡ 0

@@ -9,8 +9,8 @@ use Rattle.rules.specs.Endpoints.{Endpoint, Ends}
 use Rattle.rules.specs.Saved.{endsIn, storeEnds}
 use Rattle.rules.specs.Commands.{Reply, accept, Outcome, stays, moves}
 use Rattle.rules.specs.Host.{payloadOf}
-use Rattle.rules.specs.Answers.{saidOf, did}
-use Rattle.rules.specs.declared.Said.{Said}
+use Rattle.commands_reply.specs.Answers.{saidOf, did}
+use Rattle.commands_reply.specs.declared.Said.{Said}
 use Rattle.rules.proofs.SavedReads.{ends-kept}
 use Rattle.saved.specs.Held.{Held}
 use Rattle.saved.specs.Serves.{Serves}

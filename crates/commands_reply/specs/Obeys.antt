@@ -7,8 +7,8 @@ use Rattle.rules.specs.Book.{Book, bookOf}
 use Rattle.rules.specs.Endpoints.{Ends}
 use Rattle.rules.specs.Saved.{endsIn}
 use Rattle.rules.specs.Commands.{Outcome}
-use Rattle.rules.specs.Answers.{Did, did}
-use Rattle.rules.specs.declared.Said.{Said}
+use Rattle.commands_reply.specs.Answers.{Did, did}
+use Rattle.commands_reply.specs.declared.Said.{Said}
 
 -- the endpoints that the records show
 abbrev pub endsOf : List ℕ → List ℕ → Ends

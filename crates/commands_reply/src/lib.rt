@@ -1,6 +1,5 @@
 // Replies that a command writes at the front of the reply area, and what is said without writing.
 use rules::Fault;
-use rules::Said;
 use rules::Signal;
 
 ghost use mathlib.Core.Path.{_≡_};
@@ -10,25 +9,31 @@ ghost use lib.ListN.{length};
 ghost use Rattle.rules.specs.Octets.{front};
 ghost use Rattle.rules.specs.Commands.{silence, generalReject, accept, reject, rejects};
 ghost use Rattle.rules.specs.Host.{payloadOf};
-ghost use Rattle.rules.specs.Answers.{saidOf};
+ghost use Rattle.commands_reply.specs.Answers.{saidOf};
+
+// What is said to the far end: the message type (0 silence, 1 general reject, 2 accept, 3 reject) and the length of the payload.
+pub struct Said {
+    pub mtype: u8,
+    pub length: usize,
+}
 
 pub fn silent() -> Said
     ensures { λ r. ⌜ r ≡ saidOf silence ⌝ }
 {
-    Said { kind: 0, length: 0 }
+    Said { mtype: 0, length: 0 }
 }
 
 pub fn general() -> Said
     ensures { λ r. ⌜ r ≡ saidOf generalReject ⌝ }
 {
-    Said { kind: 1, length: 0 }
+    Said { mtype: 1, length: 0 }
 }
 
 // An accept without payload.
 pub fn accepted() -> Said
     ensures { λ r. ⌜ r ≡ saidOf (accept []) ⌝ }
 {
-    Said { kind: 2, length: 0 }
+    Said { mtype: 2, length: 0 }
 }
 
 // A reject of one octet, the code.
@@ -38,7 +43,7 @@ pub fn rejected(reply: &mut [u8], code: u8) -> Said
     ensures reply { λ _. ⌜ now (reply .exit) ≡ front (code ∷ []) (now (reply .entry)) ⌝ }
 {
     reply[0] = code;
-    Said { kind: 3, length: 1 }
+    Said { mtype: 3, length: 1 }
 }
 
 // A reject of two octets, what failed and the code.
@@ -49,7 +54,7 @@ pub fn rejected_for(reply: &mut [u8], what: u8, code: u8) -> Said
 {
     reply[0] = what;
     reply[1] = code;
-    Said { kind: 3, length: 2 }
+    Said { mtype: 3, length: 2 }
 }
 
 // A reject for an element that failed.

@@ -14,8 +14,8 @@ use Rattle.rules.specs.Endpoints.{Endpoint, isIdle, withConfig, endAt}
 use Rattle.rules.specs.Saved.{recordRoom, configRoom, headIn}
 use Rattle.rules.specs.Commands.{accept, reject, moves, rejects, rejectsFault, lengthRight, may, reconfigureAt, obey}
 use Rattle.rules.specs.Host.{payloadOf}
-use Rattle.rules.specs.Answers.{saidOf}
-use Rattle.rules.specs.declared.Said.{Said}
+use Rattle.commands_reply.specs.Answers.{saidOf}
+use Rattle.commands_reply.specs.declared.Said.{Said}
 use Rattle.rules.specs.declared.Head.{Head}
 use Rattle.rules.specs.declared.Fault.{Fault}
 use Rattle.rules.specs.declared.Rule.the-variants.{Setting, Reconfiguring}

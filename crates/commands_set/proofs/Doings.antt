@@ -12,8 +12,8 @@ use Rattle.rules.specs.Book.{Entry, bookOf}
 use Rattle.rules.specs.Endpoints.{Endpoint, Ends}
 use Rattle.rules.specs.Saved.{recordRoom, headRoom, headOctets}
 use Rattle.rules.specs.Commands.{accept, Outcome, stays, moves, rejectsFault, named, obey}
-use Rattle.rules.specs.Answers.{saidOf}
-use Rattle.rules.specs.declared.Said.{Said}
+use Rattle.commands_reply.specs.Answers.{saidOf}
+use Rattle.commands_reply.specs.declared.Said.{Said}
 use Rattle.rules.specs.declared.Head.{Head}
 use Rattle.rules.specs.declared.Fault.{Fault}
 use Rattle.rules.specs.declared.Signal.{Signal}

@@ -6,7 +6,7 @@ use elements::walks::check;
 use elements::walks::Walked;
 use rules::Head;
 use rules::Rule;
-use rules::Said;
+use commands_reply::Said;
 use saved::records::config;
 use saved::records::get;
 

@@ -6,7 +6,7 @@ use elements::walks::check;
 use elements::walks::Walked;
 use rules::FarSeid;
 use rules::Rule;
-use rules::Said;
+use commands_reply::Said;
 use saved::moves::settled;
 use saved::records::get;
 use saved_states::far_right;

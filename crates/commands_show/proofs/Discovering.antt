@@ -11,7 +11,7 @@ use Rattle.rules.specs.Book.{Entry, Book, bookNumber, entriesIn, bookOf}
 use Rattle.rules.specs.Saved.{recordRoom, endpointIn, endsIn}
 use Rattle.rules.specs.Commands.{accept, inUse, discovered}
 use Rattle.rules.specs.Host.{payloadOf}
-use Rattle.rules.specs.Answers.{saidOf}
+use Rattle.commands_reply.specs.Answers.{saidOf}
 use Rattle.rules.proofs.Tests.{and-l, and-r, between-most}
 use Rattle.rules.proofs.RightBook.{entryRight, right-book}
 use Rattle.octets.specs.Patch.{patch}
@@ -117,13 +117,13 @@ module _ (n left : ℕ) (b : List ℕ) (at : ℕ) (l : List ℕ) (i : ℕ) (e : 
 -- none is left, so that all is said
 pub octets-said : (left : ℕ) (b : List ℕ) (at : ℕ) (l : List ℕ) (i n : ℕ) (d before : List ℕ) → left ≡ 0 → n ≡ length (bookOf b)
   → patch (i * 2) (octetsLeft left b at l i) d ≡ patch 0 (all b l) before
-  → Says (accept (all b l)) (record { kind = 2; length = n * 2 }) before d
+  → Says (accept (all b l)) (record { mtype = 2; length = n * 2 }) before d
 unfolding saidOf payloadOf discovered entriesIn
 octets-said left b at l i n d before none e inv =
     let size : (n - 0) * 2 ≡ n * 2 = omega arith in
     record {
       told =
-        ap (λ (k : ℕ). record { kind = 2; length = k })
+        ap (λ (k : ℕ). record { mtype = 2; length = k })
           (sym (octets-length (n - 0) (drop 6 b) l ∙ size) ∙ ap length (all-octets b l n e));
       written =
         patch-none (i * 2) d

@@ -11,8 +11,8 @@ use Rattle.rules.specs.Book.{written, upToCodec, shownBy02, shownBy0C}
 use Rattle.rules.specs.Endpoints.{Endpoint}
 use Rattle.rules.specs.Commands.{accept, reject, stays, rejects, offersAt, configurationAt, securityAt, obey}
 use Rattle.rules.specs.Host.{payloadOf}
-use Rattle.rules.specs.Answers.{saidOf}
-use Rattle.rules.specs.declared.Said.{Said}
+use Rattle.commands_reply.specs.Answers.{saidOf}
+use Rattle.commands_reply.specs.declared.Said.{Said}
 use Rattle.rules.specs.declared.Signal.{Signal}
 use Rattle.rules.specs.declared.Signal.the-variants.{GetCapabilities, GetConfiguration, SecurityControl, GetAllCapabilities}
 use Rattle.rules.proofs.ShortReplies.{caps-short}
@@ -43,14 +43,14 @@ module _ {book records p reply : List ℕ} {at : Place} where
   pub shows-some : Named GetCapabilities book records p reply at → {q reply′ : List ℕ} {n : ℕ}
     → q ≡ part (at .from) (at .size) book
     → (reply′ ≡ patch 0 (written (upToCodec (items q))) reply) × (n ≡ 0 + length (written (upToCodec (items q))))
-    → Obeys (obey GetCapabilities) book records p reply (record { kind = 2; length = n }) records reply′
+    → Obeys (obey GetCapabilities) book records p reply (record { mtype = 2; length = n }) records reply′
   unfolding obey offersAt shownBy02 part saidOf payloadOf
   shows-some call {q} e h =
       let shown = written (upToCodec (items q)) in
       let same = ap (λ (l : List ℕ). written (upToCodec (items l))) e in
       did-say call (offersAt shownBy02 (endsOf book records)) refl (accept shown)
         (ap (λ (l : List ℕ). stays (endsOf book records) (accept l)) (sym same))
-        (ap (λ (k : ℕ). record { kind = 2; length = k }) (h .1 ∙ zero-add (length shown)))
+        (ap (λ (k : ℕ). record { mtype = 2; length = k }) (h .1 ∙ zero-add (length shown)))
         (h .0 ∙ sym (front-patch shown reply))
 
   pub shows-all : Named GetAllCapabilities book records p reply at → {q reply′ : List ℕ} {said : Said}

@@ -1,6 +1,6 @@
 // 01 Discover: two octets for each entry of the book, its SEID with whether it is in use, and its kind octet.
 use commands_checks::tables::length_right;
-use rules::Said;
+use commands_reply::Said;
 use rules::Signal;
 use saved::records::get;
 use saved_states::is_idle;
@@ -45,7 +45,7 @@ fn list_entries(book: &[u8], records: &[u8], reply: &mut [u8]) -> Said
         i += 1;
     }
     Said {
-        kind: 2,
+        mtype: 2,
         length: entries * 2,
     }
 }

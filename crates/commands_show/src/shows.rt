@@ -1,6 +1,6 @@
 // What is answered at the endpoint that a command names, where nothing is moved.
 use book::places::Place;
-use rules::Said;
+use commands_reply::Said;
 use saved::records::config;
 
 ghost use Prim.Native.Nat.{_≤_};
@@ -19,7 +19,7 @@ fn accepted_with(reply: &mut [u8], payload: &[u8]) -> Said
 {
     octets::put(reply, 0, payload);
     Said {
-        kind: 2,
+        mtype: 2,
         length: payload.len(),
     }
 }
@@ -31,7 +31,7 @@ pub fn get_capabilities(book: &[u8], records: &[u8], payload: &[u8], reply: &mut
       (now (reply .entry)) r (now (records .entry)) (now (reply .exit)) ⌝ }
 {
     let length = elements_stored::shown::show(reply, 0, octets::part(book, at.from, at.size), 0);
-    Said { kind: 2, length }
+    Said { mtype: 2, length }
 }
 
 // 0C: all of it.

@@ -14,8 +14,8 @@ use Rattle.rules.specs.Endpoints.{awaiting, takesDelay, withDelay, opened, move
 use Rattle.rules.specs.Saved.{recordRoom, headIn, headOctets, endsIn, pairIn}
 use Rattle.rules.specs.Commands.{accept, reject, Outcome, moves, rejects, named, openAt, leaveAt, delayAt, obey}
 use Rattle.rules.specs.Host.{payloadOf}
-use Rattle.rules.specs.Answers.{saidOf}
-use Rattle.rules.specs.declared.Said.{Said}
+use Rattle.commands_reply.specs.Answers.{saidOf}
+use Rattle.commands_reply.specs.declared.Said.{Said}
 use Rattle.rules.specs.declared.State.{State}
 use Rattle.rules.specs.declared.Delay.the-variants.{Reported}
 use Rattle.rules.specs.declared.Head.{Head}

@@ -13,8 +13,8 @@ use Rattle.rules.specs.Endpoints.{Ends, inState, movedBy, endAt}
 use Rattle.rules.specs.Saved.{recordRoom, headIn, headOctets, recordsRight, endsIn, storeEnds}
 use Rattle.rules.specs.Commands.{Reply, accept, stays, rejects, lengthRight, ourIn, shiftOne, shiftEach, shift}
 use Rattle.rules.specs.Host.{payloadOf}
-use Rattle.rules.specs.Answers.{saidOf}
-use Rattle.rules.specs.declared.Said.{Said}
+use Rattle.commands_reply.specs.Answers.{saidOf}
+use Rattle.commands_reply.specs.declared.Said.{Said}
 use Rattle.rules.specs.declared.State.{State}
 use Rattle.rules.specs.declared.Signal.{Signal}
 use Rattle.rules.proofs.SavedReads.{Fits, ends-length, ends-back, ends-right, length-endsIn, read-short, octets-known}

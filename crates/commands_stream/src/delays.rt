@@ -1,6 +1,6 @@
 // 0D Delay Report: the delay in tenths of a millisecond, high octet first.
 use book::places::Place;
-use rules::Said;
+use commands_reply::Said;
 use saved::moves::delayed;
 use saved::records::config;
 use saved::records::get;

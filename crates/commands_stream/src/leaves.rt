@@ -1,6 +1,6 @@
 // Close and Abort: with a channel the endpoint is closing or aborting from then on, without one it is idle.
 use book::places::Place;
-use rules::Said;
+use commands_reply::Said;
 use rules::State;
 use saved::moves::idle;
 use saved::moves::in_state;
@@ -15,7 +15,7 @@ ghost use Prim.Native.Nat.{_+_, _*_, _≤_};
 ghost use lib.ListN.{length};
 ghost use Rattle.rules.specs.Saved.{recordRoom};
 ghost use Rattle.rules.specs.Commands.{accept, obey};
-ghost use Rattle.rules.specs.Answers.{saidOf};
+ghost use Rattle.commands_reply.specs.Answers.{saidOf};
 ghost use Rattle.rules.specs.declared.Signal.the-variants.{Close, Abort};
 ghost use Rattle.commands_reply.specs.Obeys.{Obeys};
 ghost use Rattle.commands_checks.specs.Named.{Named};

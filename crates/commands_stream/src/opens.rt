@@ -1,6 +1,6 @@
 // 06 Open: the endpoint opens and awaits its channel, where no other awaits one.
 use book::places::Place;
-use rules::Said;
+use commands_reply::Said;
 use rules::layout::CHANNEL;
 use rules::layout::RECORD;
 use saved::moves::opened;

@@ -3,7 +3,7 @@ use commands_checks::preambles::Met;
 use commands_checks::preambles::meets;
 use commands_checks::tables::length_right;
 use rules::OurSeid;
-use rules::Said;
+use commands_reply::Said;
 use rules::Signal;
 use rules::State;
 

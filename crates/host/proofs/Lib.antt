@@ -1,2 +1,2 @@
-pub mod OtherKinds
+pub mod OtherEvents
 pub mod SettingsStand

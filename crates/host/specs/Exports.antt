@@ -6,8 +6,8 @@ use mathlib.Core.List.{List, [], _∷_}
 use lib.ListN.{length, getD}
 use lib.Dec.{eqb}
 use Rattle.rules.specs.Octets.{if_then_else_}
-use Rattle.rules.specs.Saved.{recordsPlace, recordRoom, headRoom, stateOctet, channelOctet}
-use Rattle.rules.specs.Host.{Kept, freshCall, Answered, packetCall, eventCall, refusalOf, Shown, settingsCall, delayCall, cutCall}
+use Rattle.rules.specs.Saved.{recordsPlace, recordRoom, headRoom, stateOctet, channelOctet, configLengthPlace}
+use Rattle.rules.specs.Host.{Kept, eventCall, refusalOf, Shown, settingsCall}
 use Rattle.rules.specs.Host.{statusCall}
 use Rattle.rules.specs.declared.OurSeid.{OurSeid}
 use Rattle.rules.specs.declared.Event.{Event}
@@ -16,40 +16,21 @@ use Rattle.octets.specs.Patch.{part}
 use Rattle.book.specs.Places.{placeIn}
 use Rattle.book.specs.declared.places.Located.{Located}
 use Rattle.book.specs.declared.places.Located.the-variants.{Unknown, Known}
-use Rattle.host.specs.declared.Answer.{Answer}
 use Rattle.host.specs.declared.Span.{Span}
-use Rattle.host.specs.declared.Lag.{Lag}
-use Rattle.host.specs.declared.Written.{Written}
 use Rattle.host.specs.declared.Standing.{Standing}
 
 abbrev pub ours : ℕ → OurSeid
 ours seid = record { 0 = seid }
 
--- ---- fresh, packet
-
-abbrev pub Freshens : List ℕ → List ℕ → ℕ → List ℕ → Type 0
-Freshens book saved number saved′ = _≡_ {A = Kept} (record { number = number; saved = saved′ }) (freshCall book saved)
-
-abbrev pub Answers : List ℕ → ℕ → List ℕ → List ℕ → List ℕ → Answer → List ℕ → List ℕ → Type 0
-Answers book size saved packet reply r saved′ reply′ =
-    _≡_ {A = Answered}
-      (record {
-        told =
-          record { number = r .number; label = r .label; type = r .kind; signal = r .signal; length = r .length };
-        saved = saved′;
-        reply = reply′
-      })
-      (packetCall book size saved packet reply)
-
 -- ---- event
 
--- by its kind: 0 up, 1 down, 2 lost; another is the channel of SEID 0 down, which no book has
+-- by its number: 0 up, 1 down, 2 lost; another is the channel of SEID 0 down, which no book has
 abbrev pub eventOf : ℕ → ℕ → Event
-eventOf kind seid = getD (Up ∷ Down (ours seid) ∷ Lost ∷ []) kind (Down (ours 0))
+eventOf which seid = getD (Up ∷ Down (ours seid) ∷ Lost ∷ []) which (Down (ours 0))
 
 abbrev pub Happens : List ℕ → List ℕ → ℕ → ℕ → ℕ → List ℕ → Type 0
-Happens book saved kind seid number saved′ =
-    _≡_ {A = Kept} (record { number = number; saved = saved′ }) (eventCall book saved (eventOf kind seid))
+Happens book saved which seid number saved′ =
+    _≡_ {A = Kept} (record { number = number; saved = saved′ }) (eventCall book saved (eventOf which seid))
 
 -- ---- settings: where the octets stand, and that they are those of the call
 
@@ -64,7 +45,7 @@ recordFrom i = recordsPlace + i * recordRoom
 unfoldable pub spanAt : Located → List ℕ → Span
 spanAt Unknown saved = nowhereBy 10
 spanAt (Known p) saved =
-    let n = getD saved (recordFrom (p .index) + 7) 0 in
+    let n = getD saved (recordFrom (p .index) + configLengthPlace) 0 in
     if eqb n 0 then record { number = 0; area = 1; offset = p .from; length = p .size }
     else record { number = 0; area = 2; offset = recordFrom (p .index) + headRoom; length = n }
 
@@ -94,15 +75,3 @@ statusBy book saved seid =
       channel = channelOctet (t .channel);
       far = t .far .0
     }
-
--- ---- delay, cut
-
-abbrev pub Hears : List ℕ → List ℕ → ℕ → Lag → Type 0
-Hears book saved seid r =
-    _≡_ {A = Rattle.rules.specs.Host.Heard} (record { number = r .number; reported = r .reported; tenths = r .tenths })
-      (delayCall book saved (ours seid))
-
-abbrev pub Cuts : ℕ → ℕ → ℕ → ℕ → List ℕ → ℕ → List ℕ → Written → List ℕ → Type 0
-Cuts size label kind signal payload index area r area′ =
-    _≡_ {A = Rattle.rules.specs.Host.Cut} (record { number = r .number; length = r .length; area = area′ })
-      (cutCall size (record { label = label; type = kind; signal = signal; payload = payload }) index area)

@@ -5,11 +5,11 @@ use rules::OurSeid;
 ghost use mathlib.Core.Path.{_≡_};
 ghost use Rattle.host.specs.Exports.{eventOf};
 
-// Any other kind is the channel of SEID 0, which no book has: refused with 10 where nothing comes before it.
-pub fn event_of(kind: u8, seid: u8) -> Event
-    ensures { λ r. ⌜ r ≡ eventOf kind seid ⌝ }
+// Any other number is the channel of SEID 0, which no book has: refused with 10 where nothing comes before it.
+pub fn event_of(which: u8, seid: u8) -> Event
+    ensures { λ r. ⌜ r ≡ eventOf which seid ⌝ }
 {
-    match kind {
+    match which {
         0 => Event::Up,
         1 => Event::Down(OurSeid(seid)),
         2 => Event::Lost,

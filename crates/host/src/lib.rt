@@ -4,26 +4,19 @@
 mod events;
 
 use book::places::Located;
+use rules::Heard;
 use rules::OurSeid;
+use rules::Piece;
+use rules::Told;
 use rules::layout::CONFIG_LENGTH;
 use rules::layout::HEAD;
 use rules::layout::RECORD;
 use rules::layout::RECORDS;
 
 ghost use mathlib.Core.Path.{_≡_};
-ghost use Rattle.rules.specs.Host.{checkCall, packetsCall};
-ghost use Rattle.host.specs.Exports.{Freshens, Answers, Happens, Stands, Hears, statusBy, Cuts};
-
-// What a packet leads to: a number, and of the reply its label, message type (0 silence, 1 general reject, 2 accept, 3 reject),
-// signal and length.
-#[repr(C)]
-pub struct Answer {
-    pub number: u8,
-    pub label: u8,
-    pub kind: u8,
-    pub signal: u8,
-    pub length: usize,
-}
+ghost use Rattle.rules.specs.Host.{checkCall, delayCall, packetsCall};
+ghost use Rattle.bridge.specs.Calls.{Freshens, Takes, Cuts};
+ghost use Rattle.host.specs.Exports.{ours, Happens, Stands, statusBy};
 
 // Where an endpoint's settings stand: a number, the area (0 none, 1 the book, 2 the saved area), the place in it and the length.
 #[repr(C)]
@@ -34,14 +27,6 @@ pub struct Span {
     pub length: usize,
 }
 
-// A delay: a number, whether one was reported, and tenths of a millisecond.
-#[repr(C)]
-pub struct Lag {
-    pub number: u8,
-    pub reported: bool,
-    pub tenths: u16,
-}
-
 // How an endpoint stands: a number, its state (0 idle, 1 configured, 2 open, 3 streaming, 4 closing, 5 aborting), its channel
 // (0 none, 1 awaited, 2 up) and the far SEID (0 none).
 #[repr(C)]
@@ -50,13 +35,6 @@ pub struct Standing {
     pub state: u8,
     pub channel: u8,
     pub far: u8,
-}
-
-// What the cutter tells: a number, and the length of the packet that was written.
-#[repr(C)]
-pub struct Written {
-    pub number: u8,
-    pub length: usize,
 }
 
 #[no_mangle]
@@ -74,26 +52,19 @@ pub extern "C" fn bawbeenor_fresh(book: &[u8], saved: &mut [u8]) -> u8
 }
 
 #[no_mangle]
-pub extern "C" fn bawbeenor_packet(book: &[u8], size: usize, saved: &mut [u8], packet: &[u8], reply: &mut [u8]) -> Answer
-    ensures { λ r. ⌜ Answers (now (book .entry)) size (now (saved .entry)) (now (packet .entry)) (now (reply .entry))
+pub extern "C" fn bawbeenor_packet(book: &[u8], size: usize, saved: &mut [u8], packet: &[u8], reply: &mut [u8]) -> Told
+    ensures { λ r. ⌜ Takes (now (book .entry)) size (now (saved .entry)) (now (packet .entry)) (now (reply .entry))
         r (now (saved .exit)) (now (reply .exit)) ⌝ }
 {
-    let told = bridge::packet(book, size, saved, packet, reply);
-    Answer {
-        number: told.number,
-        label: told.label,
-        kind: told.kind,
-        signal: told.signal,
-        length: told.length,
-    }
+    bridge::packet(book, size, saved, packet, reply)
 }
 
-// An event by its kind: 0 the awaited channel is up, 1 the channel of `seid` is down, 2 the link is lost.
+// An event by its number: 0 the awaited channel is up, 1 the channel of `seid` is down, 2 the link is lost.
 #[no_mangle]
-pub extern "C" fn bawbeenor_event(book: &[u8], saved: &mut [u8], kind: u8, seid: u8) -> u8
-    ensures { λ r. ⌜ Happens (now (book .entry)) (now (saved .entry)) kind seid r (now (saved .exit)) ⌝ }
+pub extern "C" fn bawbeenor_event(book: &[u8], saved: &mut [u8], which: u8, seid: u8) -> u8
+    ensures { λ r. ⌜ Happens (now (book .entry)) (now (saved .entry)) which seid r (now (saved .exit)) ⌝ }
 {
-    let event = events::event_of(kind, seid);
+    let event = events::event_of(which, seid);
     bridge::event(book, saved, event)
 }
 
@@ -143,15 +114,10 @@ pub extern "C" fn bawbeenor_settings(book: &[u8], saved: &[u8], seid: u8) -> Spa
 }
 
 #[no_mangle]
-pub extern "C" fn bawbeenor_delay(book: &[u8], saved: &[u8], seid: u8) -> Lag
-    ensures { λ r. ⌜ Hears (now (book .entry)) (now (saved .entry)) seid r ⌝ }
+pub extern "C" fn bawbeenor_delay(book: &[u8], saved: &[u8], seid: u8) -> Heard
+    ensures { λ r. ⌜ r ≡ delayCall (now (book .entry)) (now (saved .entry)) (ours seid) ⌝ }
 {
-    let heard = bridge::delay(book, saved, OurSeid(seid));
-    Lag {
-        number: heard.number,
-        reported: heard.reported,
-        tenths: heard.tenths,
-    }
+    bridge::delay(book, saved, OurSeid(seid))
 }
 
 #[no_mangle]
@@ -180,17 +146,13 @@ pub extern "C" fn bawbeenor_packets(size: usize, length: usize) -> usize
 pub extern "C" fn bawbeenor_cut(
     size: usize,
     label: u8,
-    kind: u8,
+    mtype: u8,
     signal: u8,
     payload: &[u8],
     index: usize,
     area: &mut [u8],
-) -> Written
-    ensures { λ r. ⌜ Cuts size label kind signal (now (payload .entry)) index (now (area .entry)) r (now (area .exit)) ⌝ }
+) -> Piece
+    ensures { λ r. ⌜ Cuts size label mtype signal (now (payload .entry)) index (now (area .entry)) r (now (area .exit)) ⌝ }
 {
-    let piece = bridge::cut(size, label, kind, signal, payload, index, area);
-    Written {
-        number: piece.number,
-        length: piece.length,
-    }
+    bridge::cut(size, label, mtype, signal, payload, index, area)
 }

@@ -13,8 +13,7 @@ use borrow.Author.Tests.{lt-ltb, le-ltb, le-leb, lt-leb, leb-true, leb-false, ne
 use Rattle.rules.specs.Octets.{if_then_else_, front, between}
 use Rattle.rules.specs.Packets.{Message, sizeRight, longest}
 use Rattle.rules.specs.Cutting.{Headers, avdtp, packetsFor, partOf, header, countOf, packetAt}
-use Rattle.rules.specs.Host.{packetsCall, cutRefusal, cutCall}
-use Rattle.rules.specs.Wires.{cutBy}
+use Rattle.rules.specs.Host.{packetsCall, Cut, cutRefusal, cutCall}
 use Rattle.rules.specs.declared.Piece.{Piece}
 use Rattle.rules.proofs.Tests.{Told?, passed, failed, told, between-both}
 use Rattle.rules.proofs.Pieces.{before, Counts, one, several, before-less, headerOf}
@@ -78,8 +77,9 @@ numbered size m k total right e below = go (told (leb (length (m .payload)) 512)
 
 -- a refusal tells its number and leaves the area
 pub refuses : (size : ℕ) (m : Message) (k : ℕ) (area : List ℕ) (p : Piece) (n : ℕ) → p ≡ record { number = n; length = 0 }
-  → eqb n 0 ≡ false → cutRefusal size m k area ≡ n → cutBy p area ≡ cutCall size m k area
-unfolding cutBy cutCall
+  → eqb n 0 ≡ false → cutRefusal size m k area ≡ n
+  → _≡_ {A = Cut} (record { piece = p; area = area }) (cutCall size m k area)
+unfolding cutCall
 refuses size m k area p n e t r = rw (e, r, t)
 
 module _ (size : ℕ) (m : Message) (k : ℕ) (area : List ℕ) where
@@ -115,21 +115,21 @@ module _ {size : ℕ} {m : Message} {k total : ℕ} (n : Numbered size m k total
     unfolding cutRefusal longest
     label-large h = rw (n .right, low, not-long, le-ltb (m .label) 16 h)
 
-    pub type-large : m .label < 16 → 3 < m .type → cutRefusal size m k area ≡ 11
+    pub type-large : m .label < 16 → 3 < m .mtype → cutRefusal size m k area ≡ 11
     unfolding cutRefusal longest
-    type-large l h = rw (n .right, low, not-long, lt-ltb (m .label) 16 l, le-ltb (m .type) 4 h)
+    type-large l h = rw (n .right, low, not-long, lt-ltb (m .label) 16 l, le-ltb (m .mtype) 4 h)
 
-    pub signal-large : m .label < 16 → m .type < 4 → 63 < m .signal → cutRefusal size m k area ≡ 11
+    pub signal-large : m .label < 16 → m .mtype < 4 → 63 < m .signal → cutRefusal size m k area ≡ 11
     unfolding cutRefusal longest
     signal-large l t h =
-        rw (n .right, low, not-long, lt-ltb (m .label) 16 l, lt-ltb (m .type) 4 t, le-ltb (m .signal) 64 h)
+        rw (n .right, low, not-long, lt-ltb (m .label) 16 l, lt-ltb (m .mtype) 4 t, le-ltb (m .signal) 64 h)
 
     -- the numbers have room, and only the area can still be too short
     room-test : HasRoom m
       → cutRefusal size m k area ≡ (if ltb (length area) (length (packetAt size m k)) then 9 else 0)
     unfolding cutRefusal longest
     room-test r =
-        rw (n .right, low, not-long, lt-ltb (m .label) 16 (r .label-small), lt-ltb (m .type) 4 (r .type-small),
+        rw (n .right, low, not-long, lt-ltb (m .label) 16 (r .label-small), lt-ltb (m .mtype) 4 (r .type-small),
             lt-ltb (m .signal) 64 (r .signal-small))
 
     no-room : HasRoom m → length area < length (packetAt size m k) → cutRefusal size m k area ≡ 9
@@ -138,7 +138,11 @@ module _ {size : ℕ} {m : Message} {k total : ℕ} (n : Numbered size m k total
 
     -- where nothing is refused
     pub cuts : HasRoom m → length (packetAt size m k) ≤ length area
-      → cutCall size m k area ≡ record { number = 0; length = length (packetAt size m k); area = front (packetAt size m k) area }
+      → cutCall size m k area
+        ≡ record {
+            piece = record { number = 0; length = length (packetAt size m k) };
+            area = front (packetAt size m k) area
+          }
     unfolding cutCall
     cuts r fits =
         rw (room-test r ∙ ap (λ (b : Bool). if b then 9 else 0) (le-ltb (length area) (length (packetAt size m k)) fits))
@@ -232,6 +236,5 @@ module _ {size : ℕ} {m : Message} {k total : ℕ} (n : Numbered size m k total
         ∙ front-more h p area
         ∙ ap (λ (x : List ℕ). front x area) joined
 
-    pub writes : cutBy (record { number = 0; length = head + rest }) b ≡ cutCall size m k area
-    unfolding cutBy
+    pub writes : _≡_ {A = Cut} (record { piece = record { number = 0; length = head + rest }; area = b }) (cutCall size m k area)
     writes = sym (cuts n area r (omega (arith, whole-size)) ∙ rw (in-place, whole-size))

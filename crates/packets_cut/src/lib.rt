@@ -7,8 +7,7 @@ ghost use Prim.Native.Nat.{ℕ, _≤_, _<_, min};
 ghost use lib.ListN.{take};
 ghost use Rattle.rules.specs.Cutting.{avdtp, packetsFor};
 ghost use Rattle.rules.specs.Cutting.{header as headerFor};
-ghost use Rattle.rules.specs.Host.{packetsCall, cutCall};
-ghost use Rattle.rules.specs.Wires.{cutBy};
+ghost use Rattle.rules.specs.Host.{packetsCall, Cut, cutCall};
 ghost use Rattle.rules.proofs.Pieces.{headerOf, before};
 
 // How many packets a payload of this length takes: one, or a start and then as many further ones as hold the rest.
@@ -52,13 +51,13 @@ fn header_size(total: usize, index: usize) -> usize
 }
 
 // That header; behind one that is shorter than three octets stand zeros.
-fn header(label: u8, kind: u8, signal: u8, total: usize, index: usize) -> [u8; 3]
-    requires { ⌜ label < 16 ⌝ ∗ ⌜ kind < 4 ⌝ ∗ ⌜ index < total ⌝ ∗ ⌜ total ≤ 255 ⌝ }
+fn header(label: u8, mtype: u8, signal: u8, total: usize, index: usize) -> [u8; 3]
+    requires { ⌜ label < 16 ⌝ ∗ ⌜ mtype < 4 ⌝ ∗ ⌜ index < total ⌝ ∗ ⌜ total ≤ 255 ⌝ }
     ensures { λ r. ⌜ ((p : List ℕ) → take (headerOf avdtp total index) r
-        ≡ headerFor (record { label = label; type = kind; signal = signal; payload = p }) total index) ⌝ }
+        ≡ headerFor (record { label = label; mtype = mtype; signal = signal; payload = p }) total index) ⌝ }
 {
     // octet 0 of a single, whose packet type is 0; the packet type counts by 4
-    let single = label * 16 + kind;
+    let single = label * 16 + mtype;
     if index != 0 {
         if index + 1 < total {
             return [single + 8, 0, 0];
@@ -102,15 +101,15 @@ fn refused(number: u8) -> Piece
 pub fn cut(
     size: usize,
     label: u8,
-    kind: u8,
+    mtype: u8,
     signal: u8,
     payload: &[u8],
     index: usize,
     area: &mut [u8],
 ) -> Piece
-    ensures { λ r. ⌜ cutBy r (now (area .exit))
-        ≡ cutCall size (record { label = label; type = kind; signal = signal; payload = now (payload .entry) }) index
-        (now (area .entry)) ⌝ }
+    ensures { λ r. ⌜ _≡_ {A = Cut} (record { piece = r; area = now (area .exit) })
+        (cutCall size (record { label = label; mtype = mtype; signal = signal; payload = now (payload .entry) }) index
+          (now (area .entry))) ⌝ }
 {
     if size < 48 {
         return refused(8);
@@ -125,7 +124,7 @@ pub fn cut(
     if 15 < label {
         return refused(11);
     }
-    if 3 < kind {
+    if 3 < mtype {
         return refused(11);
     }
     if 63 < signal {
@@ -137,7 +136,7 @@ pub fn cut(
     if area.len() < head_size + part_size {
         return refused(9);
     }
-    let head = header(label, kind, signal, total, index);
+    let head = header(label, mtype, signal, total, index);
     octets::put(area, 0, octets::part(&head, 0, head_size));
     octets::put(area, head_size, octets::part(payload, from, part_size));
     Piece {

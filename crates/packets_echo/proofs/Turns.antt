@@ -15,7 +15,6 @@ use Rattle.rules.specs.Packets.{Message, Gathering, Step, sizeRight, completes,
 use Rattle.rules.specs.Cutting.{avdtp, countOf, packetAt}
 use Rattle.rules.specs.Host.{Cut, cutCall}
 use Rattle.rules.specs.Saved.{gatheringIn, storeGathering}
-use Rattle.rules.specs.Wires.{cutBy}
 use Rattle.rules.specs.declared.Piece.{Piece}
 use Rattle.rules.proofs.Tests.{Told?, passed, failed, told, clash}
 use Rattle.rules.proofs.Pieces.{soFar, takes-single, takes-start, takes-next, takes-last}
@@ -59,12 +58,11 @@ module _ {size : ℕ} {m : Message} (w : Whole size m) where
   packet-small k = omega (arith, w .most, packets-fit size m k (w .right))
 
   pub written : (k : ℕ) (p : Piece) (area after : List ℕ) → k < countOf size m → 672 ≤ length area
-    → cutBy p after ≡ cutCall size m k area → Written p (packetAt size m k) area after
-  unfolding cutBy
+    → _≡_ {A = Cut} (record { piece = p; area = after }) (cutCall size m k area) → Written p (packetAt size m k) area after
   written k p area after below long e =
       let n : Numbered size m k (countOf size m) = record { right = w .right; short = w .short; whole = refl; below = below } in
       let f = e ∙ cuts n area (w .room) (omega (arith, packet-small k)) in
-      record { size = ap (λ (c : Cut). c .length) f; octets = ap (λ (c : Cut). c .area) f }
+      record { size = ap (λ (c : Cut). c .piece .length) f; octets = ap (λ (c : Cut). c .area) f }
 
 -- ---- The gathering of it
 
@@ -98,7 +96,7 @@ module _ {size : ℕ} {m : Message} (w : Whole size m) where
 
 -- the message is back
 pub record Back (m : Message) (e : Echoed) (message after : List ℕ) : Type 0 where
-  pub echoed : e ≡ record { done = true; label = m .label; kind = m .type; signal = m .signal; length = length (m .payload) }
+  pub echoed : e ≡ record { done = true; label = m .label; mtype = m .mtype; signal = m .signal; length = length (m .payload) }
   pub written : after ≡ front (m .payload) message
 
 -- or packet number k is owed

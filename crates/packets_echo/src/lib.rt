@@ -1,5 +1,5 @@
 // The cutter and the gathering, one after the other as they run: what is cut reads back.
-use rules::Next;
+use packets_gather::nexts::Next;
 
 ghost use mathlib.Core.Path.{_≡_};
 ghost use mathlib.Core.Bool.{true, false};
@@ -15,18 +15,18 @@ ghost use Rattle.packets_echo.specs.Echoes.{echoedOf, payloadOn};
 pub struct Echoed {
     pub done: bool,
     pub label: u8,
-    pub kind: u8,
+    pub mtype: u8,
     pub signal: u8,
     pub length: usize,
 }
 
 fn nothing() -> Echoed
-    ensures { λ r. ⌜ r ≡ record { done = false; label = 0; kind = 0; signal = 0; length = 0 } ⌝ }
+    ensures { λ r. ⌜ r ≡ record { done = false; label = 0; mtype = 0; signal = 0; length = 0 } ⌝ }
 {
     Echoed {
         done: false,
         label: 0,
-        kind: 0,
+        mtype: 0,
         signal: 0,
         length: 0,
     }
@@ -43,23 +43,23 @@ fn receive(room: &mut [u8], size: usize, packet: &[u8], message: &mut [u8]) -> E
 {
     let then = packets_gather::gather(room, size, packet);
     match then {
-        Next::Single { label, kind, signal } => {
+        Next::Single { label, mtype, signal } => {
             let length = packet.len() - 2;
             octets::put(message, 0, octets::part(packet, 2, length));
             Echoed {
                 done: true,
                 label,
-                kind,
+                mtype,
                 signal,
                 length,
             }
         }
-        Next::Complete { label, kind, signal } => {
+        Next::Complete { label, mtype, signal } => {
             let length = packets_gather::assemble(message, room, packet);
             Echoed {
                 done: true,
                 label,
-                kind,
+                mtype,
                 signal,
                 length,
             }
@@ -73,24 +73,24 @@ fn receive(room: &mut [u8], size: usize, packet: &[u8], message: &mut [u8]) -> E
 pub fn echo(
     size: usize,
     label: u8,
-    kind: u8,
+    mtype: u8,
     signal: u8,
     payload: &[u8],
     room: &mut [u8],
     area: &mut [u8],
     message: &mut [u8],
 ) -> Echoed
-    requires { ⌜ 48 ≤ size ⌝ ∗ ⌜ size ≤ 672 ⌝ ∗ ⌜ label < 16 ⌝ ∗ ⌜ kind < 4 ⌝ ∗ ⌜ signal < 64 ⌝ }
+    requires { ⌜ 48 ≤ size ⌝ ∗ ⌜ size ≤ 672 ⌝ ∗ ⌜ label < 16 ⌝ ∗ ⌜ mtype < 4 ⌝ ∗ ⌜ signal < 64 ⌝ }
     requires { ⌜ length (now payload) ≤ 512 ⌝ }
     requires { ⌜ RoomRight (now room) ⌝ ∗ ⌜ 672 ≤ length (now area) ⌝ ∗ ⌜ 512 ≤ length (now message) ⌝ }
     ensures echoed { λ r. ⌜ r
-        ≡ record { done = true; label = label; kind = kind; signal = signal; length = length (now (payload .entry)) } ⌝ }
+        ≡ record { done = true; label = label; mtype = mtype; signal = signal; length = length (now (payload .entry)) } ⌝ }
     ensures message { λ _. ⌜ now (message .exit) ≡ front (now (payload .entry)) (now (message .entry)) ⌝ }
 {
     let total = packets_cut::packets(size, payload.len());
     let mut index = 0;
     while index < total {
-        let piece = packets_cut::cut(size, label, kind, signal, payload, index, area);
+        let piece = packets_cut::cut(size, label, mtype, signal, payload, index, area);
         let written = piece.length;
         let echoed = receive(room, size, octets::part(area, 0, written), message);
         let done = echoed.done;

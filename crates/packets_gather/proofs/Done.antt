@@ -12,14 +12,14 @@ use denote.Enum.Declared.{tagOf}
 use types.Run.{OneOf}
 use Rattle.rules.specs.Octets.{front}
 use Rattle.rules.specs.Packets.{Message, Gathering, extended, gather}
-use Rattle.rules.specs.Saved.{gatheringRoom, gatheringAt, gatheringIn, storeGathering}
-use Rattle.rules.specs.Wires.{nextOf, doneBy}
-use Rattle.rules.specs.declared.Next.{Next}
-use Rattle.rules.specs.declared.Next.the-variants.{Ended, Single, Begun, Grown, Complete}
-use Rattle.rules.proofs.Next.{the-type}
+use Rattle.rules.specs.Saved.{gatheringRoom, gatheringAt, gatheringIn, storeGathering, payloadLengthIn}
+use Rattle.packets_gather.specs.Nexts.{nextOf, doneBy}
+use Rattle.packets_gather.specs.declared.nexts.Next.{Next}
+use Rattle.packets_gather.specs.declared.nexts.Next.the-variants.{Ended, Single, Begun, Grown, Complete}
+use Rattle.packets_gather.proofs.nexts.Next.{the-type}
 use Rattle.packets_gather.specs.Rooms.{RoomRight}
 use Rattle.packets_gather.proofs.Steps.{RoomTells, room-told}
-use Rattle.packets_gather.proofs.Rooms.{gatheredIn, marked, room-kept}
+use Rattle.packets_gather.proofs.Rooms.{marked, room-kept}
 
 -- the room as a packet leaves it
 abbrev pub roomAfter : ℕ → List ℕ → List ℕ → List ℕ
@@ -29,10 +29,10 @@ roomAfter size room p = storeGathering (gather size (gatheringIn room) p .gather
 pub record Assembled (l t n : ℕ) (p room : List ℕ) (done : Option Message) : Type 0 where
   pub long : length room ≡ gatheringRoom
   pub header : 1 ≤ length p
-  pub gathered : gatheredIn room ≤ 512
+  pub gathered : payloadLengthIn room ≤ 512
   pub fits : length (gatheringAt room .message .payload) + length (drop 1 p) ≤ 512
   pub message :
-    done ≡ some (record { label = l; type = t; signal = n; payload = gatheringAt room .message .payload ++ drop 1 p })
+    done ≡ some (record { label = l; mtype = t; signal = n; payload = gatheringAt room .message .payload ++ drop 1 p })
 
 -- what an end leaves of the room
 mark-gone : (room : List ℕ) → 1 ≤ length room → gatheringAt (front (0 ∷ []) room) ≡ gatheringAt room
@@ -40,7 +40,7 @@ unfolding gatheringAt front
 mark-gone [] h = absurd (omega arith)
 mark-gone (m ∷ room) h = refl
 
-count-stays : (room : List ℕ) → 1 ≤ length room → gatheredIn (front (0 ∷ []) room) ≡ gatheredIn room
+count-stays : (room : List ℕ) → 1 ≤ length room → payloadLengthIn (front (0 ∷ []) room) ≡ payloadLengthIn room
 unfolding front
 count-stays [] h = absurd (omega arith)
 count-stays (m ∷ room) h = refl
@@ -87,7 +87,7 @@ module _ (size : ℕ) (room p : List ℕ) where
     assembled l t n e =
         let told = room-told size room p (Complete l t n) e in
         let kept = gathered-kept l t n told in
-        let count = ap gatheredIn (left l t n told) ∙ count-stays room (omega (arith, right .long)) in
+        let count = ap payloadLengthIn (left l t n told) ∙ count-stays room (omega (arith, right .long)) in
         record {
           long = room-kept size room p right .long;
           header = told .header;
@@ -98,7 +98,7 @@ module _ (size : ℕ) (room p : List ℕ) where
             ∙ (λ i.
                 some (record {
                   label = told .label i;
-                  type = told .type i;
+                  mtype = told .mtype i;
                   signal = told .signal i;
                   payload = sym kept i .message .payload ++ drop 1 p
                 }))

@@ -10,13 +10,13 @@ use mathlib.Core.Option.{some}
 use lib.ListN.{length, take, drop, getD, length-append, length-drop, take-append-drop}
 use lib.Seq.{drop-drop, drop-cons, length-take-le, sets, sets-eq}
 use Rattle.rules.specs.Octets.{front}
-use Rattle.rules.specs.Packets.{messageFrom, extended, typeIn, signalIn}
-use Rattle.rules.specs.Saved.{gatheringRoom, gatheringAt, gatheringHead, storeGathering}
+use Rattle.rules.specs.Packets.{messageFrom, extended, mtypeIn, signalIn}
+use Rattle.rules.specs.Saved.{gatheringRoom, gatheringAt, gatheringHead, storeGathering, payloadLengthIn}
 use Rattle.octets.specs.Patch.{patch}
 use Rattle.octets.proofs.Patches.{front-more}
 use Rattle.packets_gather.specs.Rooms.{begun, grown, withPart}
 use Rattle.packets_gather.proofs.Headers.{label-in}
-use Rattle.packets_gather.proofs.Rooms.{gatheredIn}
+
 
 pub front-kept : (s d : List ℕ) (n : ℕ) → length s + n ≤ length d → front (s ++ take n (drop (length s) d)) d ≡ front s d
 unfolding front
@@ -63,7 +63,7 @@ startHead p = 1 ∷ getD p 0 0 / 16 ∷ getD p 0 0 % 4 ∷ getD p 2 0 % 64 ∷ g
 
 pub begun-stored : (room p part : List ℕ) → length room ≡ gatheringRoom → getD p 0 0 < 256 → part ≡ drop 3 p
   → withPart 1 0 part (sets room 0 (startHead p)) ≡ storeGathering (some (begun p)) room
-unfolding storeGathering gatheringHead begun messageFrom typeIn signalIn counted front
+unfolding storeGathering gatheringHead begun messageFrom mtypeIn signalIn counted front
 begun-stored room p part long octet e =
     ap₂ (withPart 1 0) e (sets-eq (startHead p) room 0 (omega arith))
     ∙ with-part (startHead p) room (drop 3 p) 1 0 refl (omega arith)
@@ -85,7 +85,7 @@ five-kept r h =
       (next-octet r 4 (drop 5 r) (omega arith) refl))))
 
 pub grown-stored : (room p part : List ℕ) (n : ℕ) → length room ≡ gatheringRoom → getD room 0 0 ≡ 1 → n ≤ 512
-  → n ≡ gatheredIn room → part ≡ drop 1 p
+  → n ≡ payloadLengthIn room → part ≡ drop 1 p
   → withPart (getD room 5 0 + 1) n part room ≡ storeGathering (some (grown (gatheringAt room) p)) room
 unfolding storeGathering gatheringHead grown extended gatheringAt counted
 grown-stored room p part n long mark fits e f =

@@ -12,38 +12,34 @@ use lib.ListN.{length, drop, getD, length-drop}
 use lib.Seq.{length-take-le}
 use Rattle.rules.specs.Packets.{Gathering, longest, gatheringRight, gather}
 use Rattle.rules.specs.Endpoints.{legalGathering}
-use Rattle.rules.specs.Saved.{gatheringRoom, pairIn, gatheringAt, gatheringIn, gatheringOctetsRight, storeGathering}
+use Rattle.rules.specs.Saved.{gatheringRoom, payloadLengthIn, gatheringAt, gatheringIn, gatheringOctetsRight, storeGathering}
 use Rattle.rules.proofs.Tests.{and-l, and-r}
 use Rattle.rules.proofs.SavedReads.{PayloadFits, gathering-back, gathering-length, gathering-right}
 use Rattle.rules.proofs.RightMessages.{gather-right}
 use Rattle.packets_gather.specs.Rooms.{RoomRight}
 
--- how many octets are gathered, as the two octets say
-abbrev pub gatheredIn : List ℕ → ℕ
-gatheredIn room = pairIn (getD room 6 0) (getD room 7 0)
-
 pub record Marked (room : List ℕ) : Type 0 where
   pub mark : getD room 0 0 ≡ 1
-  pub fits : gatheredIn room ≤ 512
+  pub fits : payloadLengthIn room ≤ 512
 
 pub marked : (room : List ℕ) → RoomRight room → (getD room 0 0 ≡ 0 → ⊥) → Marked room
 unfolding gatheringOctetsRight longest
 marked room right there =
-    let both : eqb (getD room 0 0) 1 && leb (gatheredIn room) 512 ≡ true =
+    let both : eqb (getD room 0 0) 1 && leb (payloadLengthIn room) 512 ≡ true =
           rw (ne-eqb (getD room 0 0) 0 there) at (right .octets) in
     record {
-      mark = eqb-true (getD room 0 0) 1 (and-l _ (leb (gatheredIn room) 512) both);
-      fits = leb-true (gatheredIn room) 512 (and-r (eqb (getD room 0 0) 1) _ both)
+      mark = eqb-true (getD room 0 0) 1 (and-l _ (leb (payloadLengthIn room) 512) both);
+      fits = leb-true (payloadLengthIn room) 512 (and-r (eqb (getD room 0 0) 1) _ both)
     }
 
 pub gathering-there : (room : List ℕ) → (getD room 0 0 ≡ 0 → ⊥) → gatheringIn room ≡ some (gatheringAt room)
 unfolding gatheringIn
 gathering-there room there = rw (ne-eqb (getD room 0 0) 0 there)
 
-pub payload-length : (room : List ℕ) → length room ≡ gatheringRoom → gatheredIn room ≤ 512
-  → length (gatheringAt room .message .payload) ≡ gatheredIn room
+pub payload-length : (room : List ℕ) → length room ≡ gatheringRoom → payloadLengthIn room ≤ 512
+  → length (gatheringAt room .message .payload) ≡ payloadLengthIn room
 unfolding gatheringAt
-payload-length room long fits = length-take-le (gatheredIn room) (drop 8 room) (rw length-drop (omega arith))
+payload-length room long fits = length-take-le (payloadLengthIn room) (drop 8 room) (rw length-drop (omega arith))
 
 -- ---- What is stored is right
 

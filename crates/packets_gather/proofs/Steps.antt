@@ -10,13 +10,14 @@ use mathlib.Core.Option.{Option, none, some}
 use lib.Dec.{leb, ltb, eqb}
 use lib.ListN.{length, drop, getD}
 use Rattle.rules.specs.Octets.{if_then_else_, between}
-use Rattle.rules.specs.Packets.{Kind, aSingle, aStart, aContinue, anEnd, kindIn, labelIn, typeIn, messageFrom, readAs, read}
+use Rattle.rules.specs.Packets.{PacketType, aSingle, aStart, aContinue, anEnd, packetTypeIn, labelIn, mtypeIn, messageFrom}
+use Rattle.rules.specs.Packets.{readAs, read}
 use Rattle.rules.specs.Packets.{packetIn, Gathering, Step, ended, completes, gathers, extended, begin, isNext, joined, goesOn}
 use Rattle.rules.specs.Packets.{taken, gather, longest}
 use Rattle.rules.specs.Saved.{gatheringAt, gatheringIn}
-use Rattle.rules.specs.Wires.{nextFurther, nextBy, nextOf}
-use Rattle.rules.specs.declared.Next.{Next}
-use Rattle.rules.specs.declared.Next.the-variants.{Ended, Single, Begun, Grown, Complete}
+use Rattle.packets_gather.specs.Nexts.{nextFurther, nextBy, nextOf}
+use Rattle.packets_gather.specs.declared.nexts.Next.{Next}
+use Rattle.packets_gather.specs.declared.nexts.Next.the-variants.{Ended, Single, Begun, Grown, Complete}
 use Rattle.rules.proofs.Tests.{and-l, and-r}
 use Rattle.rules.proofs.Outcomes.{if-arms}
 use Rattle.packets_gather.specs.Rooms.{begun, grown}
@@ -31,7 +32,7 @@ pub record Singles (l t n : ℕ) (p : List ℕ) (s : Step) : Type 0 where
   pub header : 2 ≤ length p
   pub fits : length (drop 2 p) ≤ 512
   pub gathering : s .gathering ≡ none
-  pub done : s .done ≡ some (record { label = l; type = t; signal = n; payload = drop 2 p })
+  pub done : s .done ≡ some (record { label = l; mtype = t; signal = n; payload = drop 2 p })
 
 pub record Begins (p : List ℕ) (s : Step) : Type 0 where
   pub header : 3 ≤ length p
@@ -52,7 +53,7 @@ pub record Completes (l t n : ℕ) (b : Bool) (g : Gathering) (p : List ℕ) (s 
   pub header : 1 ≤ length p
   pub fits : length (g .message .payload) + length (drop 1 p) ≤ 512
   pub label : g .message .label ≡ l
-  pub type : g .message .type ≡ t
+  pub mtype : g .message .mtype ≡ t
   pub signal : g .message .signal ≡ n
   pub gathering : s .gathering ≡ none
   pub done : s .done ≡ some (extended (g .message) (drop 1 p))
@@ -76,8 +77,8 @@ unfolding ended
 ends = record { gathering = refl; done = refl }
 
 module _ (g : Gathering) (h : ℕ) (q : List ℕ) where
-  joined-tells : (last : Bool) → isNext g last (labelIn h) (typeIn h) q ≡ true
-    → Tells (if last then Complete (g .message .label) (g .message .type) (g .message .signal) else Grown) false g (h ∷ q)
+  joined-tells : (last : Bool) → isNext g last (labelIn h) (mtypeIn h) q ≡ true
+    → Tells (if last then Complete (g .message .label) (g .message .mtype) (g .message .signal) else Grown) false g (h ∷ q)
         (joined g last q)
   unfolding isNext joined completes gathers grown longest
   joined-tells true e =
@@ -86,7 +87,7 @@ module _ (g : Gathering) (h : ℕ) (q : List ℕ) where
         header = omega arith;
         fits = leb-true (length (g .message .payload) + length q) 512 (search (and-l, and-r));
         label = refl;
-        type = refl;
+        mtype = refl;
         signal = refl;
         gathering = refl;
         done = refl
@@ -103,18 +104,19 @@ module _ (g : Gathering) (h : ℕ) (q : List ℕ) where
 
   further-tells : (b last : Bool)
     → let there = if b then none else some g in
-      Tells (nextFurther there last (labelIn h) (typeIn h) q) b g (h ∷ q) (goesOn there last (labelIn h) (typeIn h) q)
+      Tells (nextFurther there last (labelIn h) (mtypeIn h) q) b g (h ∷ q) (goesOn there last (labelIn h) (mtypeIn h) q)
   unfolding nextFurther goesOn
   further-tells true last = ends
   further-tells false last =
-      both-arms (λ x s. Tells x false g (h ∷ q) s) (isNext g last (labelIn h) (typeIn h) q) _ _ _ _ (joined-tells last)
+      both-arms (λ x s. Tells x false g (h ∷ q) s) (isNext g last (labelIn h) (mtypeIn h) q) _ _ _ _ (joined-tells last)
         (λ f. ends)
 
 module _ (b : Bool) (g : Gathering) where
   there : Option Gathering
   there = if b then none else some g
 
-  read-tells : (k : Kind) (h : ℕ) (q : List ℕ) → Tells (nextBy there (readAs k h q)) b g (h ∷ q) (taken there (readAs k h q))
+  read-tells : (k : PacketType) (h : ℕ) (q : List ℕ)
+      → Tells (nextBy there (readAs k h q)) b g (h ∷ q) (taken there (readAs k h q))
   unfolding there readAs nextBy taken begin completes gathers messageFrom begun longest
   read-tells aSingle h [] = ends
   read-tells aSingle h (s ∷ q) =
@@ -141,7 +143,7 @@ module _ (b : Bool) (g : Gathering) where
   packet-tells size [] = if-arms (λ k. Tells (nextBy there k) b g [] (taken there k)) (ltb size 0) _ _ (λ t. ends) (λ f. ends)
   packet-tells size (h ∷ q) =
       if-arms (λ k. Tells (nextBy there k) b g (h ∷ q) (taken there k)) (ltb size (length (h ∷ q))) _ _ (λ t. ends)
-        (λ f. read-tells (kindIn h) h q)
+        (λ f. read-tells (packetTypeIn h) h q)
 
 -- ---- Of a room
 

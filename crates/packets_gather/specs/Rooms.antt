@@ -6,7 +6,7 @@ use mathlib.Core.Bool.{true}
 use lib.ListN.{length, drop, getD}
 use Rattle.rules.specs.Packets.{Gathering, messageFrom, extended}
 use Rattle.rules.specs.Endpoints.{legalGathering}
-use Rattle.rules.specs.Saved.{gatheringRoom, gatheringIn, gatheringOctetsRight}
+use Rattle.rules.specs.Saved.{gatheringRoom, partsPlace, payloadPlace, gatheringIn, gatheringOctetsRight}
 use Rattle.octets.specs.Patch.{patch}
 
 -- It is as long as the layout says, its octets mean something, and the gathering in it is within its limits.
@@ -28,4 +28,4 @@ grown g p = record { message = extended (g .message) (drop 1 p); count = g .coun
 unfoldable pub withPart : ℕ → ℕ → List ℕ → List ℕ → List ℕ
 withPart parts before part room =
     let n = before + length part in
-    patch (8 + before) part (patch 5 (parts ∷ n / 256 ∷ n % 256 ∷ []) room)
+    patch (payloadPlace + before) part (patch partsPlace (parts ∷ n / 256 ∷ n % 256 ∷ []) room)

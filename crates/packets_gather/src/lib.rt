@@ -1,24 +1,37 @@
 // One gathering step for every packet, over the room that the gathering is saved in. The octets of a part go straight into that
 // room, once; a message that is whole in one packet is not copied at all.
-use rules::Next;
+pub mod nexts;
+
+use crate::nexts::Next;
+use rules::layout::LABEL;
+use rules::layout::LENGTH_HIGH;
+use rules::layout::LENGTH_LOW;
+use rules::layout::MARK;
+use rules::layout::MTYPE;
+use rules::layout::PACKETS;
+use rules::layout::PARTS;
+use rules::layout::PAYLOAD;
+use rules::layout::SIGNAL;
+
 ghost use mathlib.Core.Path.{_≡_};
 ghost use mathlib.Core.List.{_++_};
 ghost use mathlib.Core.Option.{Option, some};
 ghost use Prim.Native.Nat.{_+_, _≤_, _<_};
 ghost use lib.ListN.{length, drop, getD};
 ghost use Rattle.rules.specs.Octets.{front};
-ghost use Rattle.rules.specs.Packets.{Gathering, aSingle, aStart, labelIn, typeIn, readAs};
+ghost use Rattle.rules.specs.Packets.{Gathering, aSingle, aStart, labelIn, mtypeIn, readAs};
 ghost use Rattle.rules.specs.Packets.{gather as gatherOf};
-ghost use Rattle.rules.specs.Saved.{gatheringRoom, pairIn, gatheringAt, gatheringIn, storeGathering};
-ghost use Rattle.rules.specs.Wires.{nextFurther, nextBy, nextOf};
+ghost use Rattle.rules.specs.Saved.{gatheringRoom, markPlace, partsPlace, payloadLengthIn, gatheringAt, gatheringIn};
+ghost use Rattle.rules.specs.Saved.{storeGathering};
+ghost use Rattle.packets_gather.specs.Nexts.{nextFurther, nextBy, nextOf};
 ghost use Rattle.packets_gather.specs.Rooms.{RoomRight, begun, grown, withPart};
 
 // How many octets are gathered in the room.
 fn gathered(room: &[u8]) -> usize
     requires { ⌜ 8 ≤ length (now room) ⌝ }
-    ensures { λ r. ⌜ r ≡ pairIn (getD (now (room .entry)) 6 0) (getD (now (room .entry)) 7 0) ⌝ }
+    ensures { λ r. ⌜ r ≡ payloadLengthIn (now (room .entry)) ⌝ }
 {
-    room[6] as usize * 256 + room[7] as usize
+    room[LENGTH_HIGH] as usize * 256 + room[LENGTH_LOW] as usize
 }
 
 // What a packet that is a message by itself leads to, whatever is gathered.
@@ -36,7 +49,7 @@ fn single(packet: &[u8]) -> Next
     }
     Next::Single {
         label: packet[0] / 16,
-        kind: packet[0] % 4,
+        mtype: packet[0] % 4,
         signal: packet[1] % 64,
     }
 }
@@ -65,28 +78,28 @@ fn further(room: &[u8], packet: &[u8], last: bool) -> Next
     requires { ⌜ RoomRight (now room) ⌝ }
     requires { ⌜ 1 ≤ length (now packet) ⌝ }
     ensures { λ r. ⌜ r ≡ nextFurther (gatheringIn (now (room .entry))) last (labelIn (getD (now (packet .entry)) 0 0))
-        (typeIn (getD (now (packet .entry)) 0 0)) (drop 1 (now (packet .entry))) ⌝ }
+        (mtypeIn (getD (now (packet .entry)) 0 0)) (drop 1 (now (packet .entry))) ⌝ }
 {
-    if room[0] == 0 {
+    if room[MARK] == 0 {
         return Next::Ended;
     }
-    if packet[0] / 16 != room[1] {
+    if packet[0] / 16 != room[LABEL] {
         return Next::Ended;
     }
-    if packet[0] % 4 != room[2] {
+    if packet[0] % 4 != room[MTYPE] {
         return Next::Ended;
     }
     if 512 < gathered(room) + (packet.len() - 1) {
         return Next::Ended;
     }
-    let parts = room[5] as usize + 1;
-    let count = room[4] as usize;
+    let parts = room[PARTS] as usize + 1;
+    let count = room[PACKETS] as usize;
     if last {
         if parts == count {
             return Next::Complete {
-                label: room[1],
-                kind: room[2],
-                signal: room[3],
+                label: room[LABEL],
+                mtype: room[MTYPE],
+                signal: room[SIGNAL],
             };
         }
         return Next::Ended;
@@ -122,10 +135,10 @@ fn add_part(room: &mut [u8], parts: u8, before: usize, part: &[u8])
     ensures { λ _. ⌜ now (room .exit) ≡ withPart parts before (now (part .entry)) (now (room .entry)) ⌝ }
 {
     let length = before + part.len();
-    room[5] = parts;
-    room[6] = (length / 256) as u8;
-    room[7] = (length % 256) as u8;
-    octets::put(room, 8 + before, part);
+    room[PARTS] = parts;
+    room[LENGTH_HIGH] = (length / 256) as u8;
+    room[LENGTH_LOW] = (length % 256) as u8;
+    octets::put(room, PAYLOAD + before, part);
 }
 
 // A gathering begins with the first of its packets.
@@ -134,23 +147,24 @@ fn begin(room: &mut [u8], packet: &[u8])
     requires { ⌜ (3 ≤ length (now packet)) × (length (drop 3 (now packet)) ≤ 512) ⌝ }
     ensures { λ _. ⌜ now (room .exit) ≡ storeGathering (some (begun (now (packet .entry)))) (now (room .entry)) ⌝ }
 {
-    room[0] = 1;
-    room[1] = packet[0] / 16;
-    room[2] = packet[0] % 4;
-    room[3] = packet[2] % 64;
-    room[4] = packet[1];
+    room[MARK] = 1;
+    room[LABEL] = packet[0] / 16;
+    room[MTYPE] = packet[0] % 4;
+    room[SIGNAL] = packet[2] % 64;
+    room[PACKETS] = packet[1];
     add_part(room, 1, 0, &packet[3..]);
 }
 
 // A gathering goes on with one more packet.
 fn grow(room: &mut [u8], packet: &[u8])
-    requires { ⌜ (length (now room) ≡ gatheringRoom) × (getD (now room) 0 0 ≡ 1) × (getD (now room) 5 0 < 255) ⌝ }
+    requires { ⌜ (length (now room) ≡ gatheringRoom) × (getD (now room) markPlace 0 ≡ 1)
+      × (getD (now room) partsPlace 0 < 255) ⌝ }
     requires { ⌜ 1 ≤ length (now packet) ⌝ }
-    requires { ⌜ pairIn (getD (now room) 6 0) (getD (now room) 7 0) + length (drop 1 (now packet)) ≤ 512 ⌝ }
+    requires { ⌜ payloadLengthIn (now room) + length (drop 1 (now packet)) ≤ 512 ⌝ }
     ensures { λ _. ⌜ now (room .exit)
         ≡ storeGathering (some (grown (gatheringAt (now (room .entry))) (now (packet .entry)))) (now (room .entry)) ⌝ }
 {
-    let parts = room[5] + 1;
+    let parts = room[PARTS] + 1;
     let before = gathered(room);
     add_part(room, parts, before, &packet[1..]);
 }
@@ -168,7 +182,7 @@ pub fn gather(room: &mut [u8], size: usize, packet: &[u8]) -> Next
         Next::Begun => begin(room, packet),
         Next::Grown => grow(room, packet),
         // without the mark no other octet of the room counts
-        _ => room[0] = 0,
+        _ => room[MARK] = 0,
     }
     then
 }
@@ -177,7 +191,7 @@ pub fn gather(room: &mut [u8], size: usize, packet: &[u8]) -> Next
 pub fn assemble(message: &mut [u8], room: &[u8], packet: &[u8]) -> usize
     requires { ⌜ length (now room) ≡ gatheringRoom ⌝ }
     requires { ⌜ 1 ≤ length (now packet) ⌝ }
-    requires { ⌜ pairIn (getD (now room) 6 0) (getD (now room) 7 0) ≤ 512 ⌝ }
+    requires { ⌜ payloadLengthIn (now room) ≤ 512 ⌝ }
     requires { ⌜ length (gatheringAt (now room) .message .payload) + length (drop 1 (now packet)) ≤ length (now message) ⌝ }
     ensures written { λ _. ⌜ now (message .exit)
         ≡ front (gatheringAt (now (room .entry)) .message .payload ++ drop 1 (now (packet .entry))) (now (message .entry)) ⌝ }
@@ -185,7 +199,7 @@ pub fn assemble(message: &mut [u8], room: &[u8], packet: &[u8]) -> usize
 {
     let before = gathered(room);
     let part = &packet[1..];
-    octets::put(message, 0, octets::part(room, 8, before));
+    octets::put(message, 0, octets::part(room, PAYLOAD, before));
     octets::put(message, before, part);
     before + part.len()
 }

@@ -56,9 +56,9 @@ fn delay(word: &[u8]) -> usize {
     number(word, 65535)
 }
 
-// A word as a number, by its kind; NONE where it is not of this kind.
-fn valued(kind: u8, word: &[u8]) -> usize {
-    match kind {
+// A word as a number, by its form; NONE where it is not of this form.
+fn valued(form: u8, word: &[u8]) -> usize {
+    match form {
         b'o' => number(word, 255),
         b'n' => number(word, 65535),
         b'd' => delay(word),
@@ -68,7 +68,7 @@ fn valued(kind: u8, word: &[u8]) -> usize {
     }
 }
 
-// The words of a step: their numbers, and the place behind them. A word that is not of its kind is one that is odd.
+// The words of a step: their numbers, and the place behind them. A word that is not of its form is one that is odd.
 struct Numbered {
     numbers: [usize; 6],
     at: usize,
@@ -83,11 +83,11 @@ struct Taken {
 }
 
 // Word number k; where the step has fewer, nothing is taken.
-fn take(kinds: &[u8], k: usize, text: &[u8], at: usize, odd: bool) -> Taken {
-    if kinds.len() <= k {
+fn take(forms: &[u8], k: usize, text: &[u8], at: usize, odd: bool) -> Taken {
+    if forms.len() <= k {
         return Taken { number: 0, at, odd };
     }
-    let number = valued(kinds[k], word(text, at));
+    let number = valued(forms[k], word(text, at));
     if number == NONE {
         return Taken {
             number,
@@ -102,13 +102,13 @@ fn take(kinds: &[u8], k: usize, text: &[u8], at: usize, odd: bool) -> Taken {
     }
 }
 
-fn words(kinds: &[u8], text: &[u8], from: usize) -> Numbered {
+fn words(forms: &[u8], text: &[u8], from: usize) -> Numbered {
     let mut numbers = [0usize; 6];
     let mut at = from;
     let mut odd = false;
     let mut k = 0;
     while k < 6 {
-        let taken = take(kinds, k, text, at, odd);
+        let taken = take(forms, k, text, at, odd);
         numbers[k] = taken.number;
         at = taken.at;
         odd = taken.odd;
@@ -143,9 +143,9 @@ fn parted(text: &[u8], most: usize, data: &mut [u8]) -> usize {
     count
 }
 
-// What stands at a step's end, by its kind, read into `data`: how many octets, NONE where it is not of this kind.
-fn ending(kind: u8, text: &[u8], data: &mut [u8]) -> usize {
-    match kind {
+// What stands at a step's end, by its form, read into `data`: how many octets, NONE where it is not of this form.
+fn ending(form: u8, text: &[u8], data: &mut [u8]) -> usize {
+    match form {
         b'*' => parted(text, 4096, data),
         b'p' => parted(text, 512, data),
         b'k' => config(text, data),

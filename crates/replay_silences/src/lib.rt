@@ -4,23 +4,30 @@ use replay_answers::says::fill;
 use replay_answers::says::say;
 use replay_answers::says::sentence;
 use replay_script::numbers::wide;
+use rules::layout::LABEL;
+use rules::layout::LENGTH_HIGH;
+use rules::layout::LENGTH_LOW;
+use rules::layout::MARK;
+use rules::layout::MTYPE;
+use rules::layout::PACKETS;
+use rules::layout::PARTS;
 
 // Label, message type, packet type: the parts of a packet's first octet.
 fn label_of(octet: u8) -> u8 {
     octet / 16
 }
 
-fn kind_of(octet: u8) -> u8 {
+fn message_type(octet: u8) -> u8 {
     octet % 4
 }
 
-pub fn type_of(octet: u8) -> u8 {
+pub fn packet_type(octet: u8) -> u8 {
     octet / 4 % 4
 }
 
 // The key for a message that is whole and silent: an Abort, or no command.
-fn whole_key(kind: u8, length: usize) -> u8 {
-    if kind != 0 {
+fn whole_key(mtype: u8, length: usize) -> u8 {
+    if mtype != 0 {
         return b'n';
     }
     if length == 1 {
@@ -37,7 +44,7 @@ fn single_key(packet: &[u8]) -> u8 {
     if 514 < packet.len() {
         return b'p';
     }
-    whole_key(kind_of(packet[0]), packet.len() - 2)
+    whole_key(message_type(packet[0]), packet.len() - 2)
 }
 
 fn start_key(packet: &[u8]) -> u8 {
@@ -58,19 +65,19 @@ fn further_key(packet: &[u8], gathering: &[u8]) -> u8 {
     if gathering.len() < 8 {
         return b'o';
     }
-    if gathering[0] == 0 {
+    if gathering[MARK] == 0 {
         return b'o';
     }
-    if label_of(packet[0]) != gathering[1] {
+    if label_of(packet[0]) != gathering[LABEL] {
         return b'l';
     }
-    if kind_of(packet[0]) != gathering[2] {
+    if message_type(packet[0]) != gathering[MTYPE] {
         return b'k';
     }
-    let owed = wide(gathering[4]);
-    let come = wide(gathering[5]);
-    let length = pair(gathering[6], gathering[7]);
-    if type_of(packet[0]) == 2 {
+    let owed = wide(gathering[PACKETS]);
+    let come = wide(gathering[PARTS]);
+    let length = pair(gathering[LENGTH_HIGH], gathering[LENGTH_LOW]);
+    if packet_type(packet[0]) == 2 {
         if owed <= come + 1 {
             return b'E';
         }
@@ -85,7 +92,7 @@ fn further_key(packet: &[u8], gathering: &[u8]) -> u8 {
     if 513 < length + packet.len() {
         return b'p';
     }
-    whole_key(kind_of(packet[0]), length + packet.len() - 1)
+    whole_key(message_type(packet[0]), length + packet.len() - 1)
 }
 
 fn key(size: usize, packet: &[u8], gathering: &[u8]) -> u8 {
@@ -95,8 +102,7 @@ fn key(size: usize, packet: &[u8], gathering: &[u8]) -> u8 {
     if size < packet.len() {
         return b'z';
     }
-    let kind = type_of(packet[0]);
-    match kind {
+    match packet_type(packet[0]) {
         0 => single_key(packet),
         1 => start_key(packet),
         _ => further_key(packet, gathering),
@@ -130,7 +136,7 @@ fn completes(packet: &[u8], key: u8) -> bool {
     if packet.len() == 0 {
         return false;
     }
-    if type_of(packet[0]) != 3 {
+    if packet_type(packet[0]) != 3 {
         return false;
     }
     if key == b'a' {
@@ -183,7 +189,7 @@ fn is_start(packet: &[u8]) -> bool {
     if packet.len() == 0 {
         return false;
     }
-    type_of(packet[0]) == 1
+    packet_type(packet[0]) == 1
 }
 
 // A packet that was not answered.

@@ -14,15 +14,18 @@ use replay_words::changes;
 use replay_words::notes;
 use replay_words::outcomes;
 use rules::Told;
+use rules::layout::LENGTH_HIGH;
+use rules::layout::LENGTH_LOW;
 use rules::layout::LINK;
+use rules::layout::PAYLOAD;
 
 // A line for each packet of a reply.
-fn say_reply(size: usize, label: u8, kind: u8, signal: u8, payload: &[u8]) {
+fn say_reply(size: usize, label: u8, mtype: u8, signal: u8, payload: &[u8]) {
     let mut piece = [0u8; 672];
     let count = bridge::packets(size, payload.len());
     let mut i = 0;
     while i < count {
-        let cut = bridge::cut(size, label, kind, signal, payload, i, &mut piece);
+        let cut = bridge::cut(size, label, mtype, signal, payload, i, &mut piece);
         let length = cut.length;
         answer_with(says::PACKET, 0, 0, front(&piece, length));
         i += 1;
@@ -36,11 +39,11 @@ fn say_told(size: usize, told: Told, reply: &[u8]) {
         answer(says::REFUSED, wide(number), 0);
         return;
     }
-    if told.kind == 0 {
+    if told.mtype == 0 {
         answer(says::SILENT, 0, 0);
         return;
     }
-    say_reply(size, told.label, told.kind, told.signal, reply);
+    say_reply(size, told.label, told.mtype, told.signal, reply);
 }
 
 // Whether a packet is a whole message.
@@ -48,7 +51,7 @@ fn single(packet: &[u8]) -> bool {
     if packet.len() < 2 {
         return false;
     }
-    replay_silences::type_of(packet[0]) == 0
+    replay_silences::packet_type(packet[0]) == 0
 }
 
 // The payload that a packet carries, behind its head.
@@ -67,7 +70,7 @@ fn gathered<'a>(packet: &[u8], gathering: &'a [u8]) -> &'a [u8] {
     if single(packet) {
         return &gathering[0..0];
     }
-    front(&gathering[8..LINK], pair(gathering[6], gathering[7]))
+    front(&gathering[PAYLOAD..LINK], pair(gathering[LENGTH_HIGH], gathering[LENGTH_LOW]))
 }
 
 // What a packet's answer means, if that is asked for.
@@ -79,11 +82,11 @@ fn explain(kept: Kept, told: Told, packet: &[u8], before: &[u8], saved: &[u8], r
         notes::note(told.number, notes::NO_ENDPOINT, 0, 0, 0);
         return;
     }
-    if told.kind == 0 {
+    if told.mtype == 0 {
         replay_silences::silent(kept.size, packet, link(before), link(saved));
         return;
     }
-    outcomes::reply(told.kind, told.signal, gathered(packet, link(before)), carried(packet), reply);
+    outcomes::reply(told.mtype, told.signal, gathered(packet, link(before)), carried(packet), reply);
     changes::all(before, saved, kept.records);
 }
 

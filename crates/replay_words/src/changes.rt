@@ -6,7 +6,14 @@ use replay_answers::says::phrase;
 use replay_answers::says::say;
 use replay_answers::says::sentence;
 use replay_script::numbers::wide;
+use rules::layout::CHANNEL;
+use rules::layout::CONFIG_LENGTH;
+use rules::layout::DELAY_HIGH;
+use rules::layout::DELAY_LOW;
+use rules::layout::DELAY_MARK;
 use rules::layout::RECORD;
+use rules::layout::SEID;
+use rules::layout::STATE;
 
 // An octet that has a name, from a table of names.
 fn renamed(seid: usize, table: &[u8], from: u8, to: u8) -> bool {
@@ -61,17 +68,18 @@ fn changed(before: &[u8], after: &[u8]) -> bool {
     if after.len() != RECORD {
         return false;
     }
-    let seid = wide(after[0]);
+    let seid = wide(after[SEID]);
     let state = renamed(
         seid,
         b"\x00:idle\n\x01:configured\n\x02:open\n\x03:streaming\n\x04:closing\n\x05:aborting\n",
-        before[1],
-        after[1],
+        before[STATE],
+        after[STATE],
     );
-    let channel = renamed(seid, b"\x00:channel none\n\x01:channel awaited\n\x02:channel up\n", before[2], after[2]);
-    let same = octets::same(&before[4..7], &after[4..7]);
-    let delay = renewed(same, seid, key(after[4], b'f', b'd'), pair(after[5], after[6]));
-    let config = renewed(before[7] == after[7], seid, key(after[7], b'g', b'c'), wide(after[7]));
+    let channel = renamed(seid, b"\x00:channel none\n\x01:channel awaited\n\x02:channel up\n", before[CHANNEL], after[CHANNEL]);
+    let same = octets::same(&before[DELAY_MARK..CONFIG_LENGTH], &after[DELAY_MARK..CONFIG_LENGTH]);
+    let delay = renewed(same, seid, key(after[DELAY_MARK], b'f', b'd'), pair(after[DELAY_HIGH], after[DELAY_LOW]));
+    let size = after[CONFIG_LENGTH];
+    let config = renewed(before[CONFIG_LENGTH] == size, seid, key(size, b'g', b'c'), wide(size));
     either(either(state, channel), either(delay, config))
 }
 

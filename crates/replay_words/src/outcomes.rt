@@ -230,15 +230,15 @@ fn rejected(signal: u8, length: usize, reply: &[u8]) {
     }
 }
 
-// `kind` is the reply's message type, and `reply` its payload; the command's payload is what came `before`, and the `last` part.
-pub fn reply(kind: u8, signal: u8, before: &[u8], last: &[u8], reply: &[u8]) {
+// `mtype` is the reply's message type, and `reply` its payload; the command's payload is what came `before`, and the `last` part.
+pub fn reply(mtype: u8, signal: u8, before: &[u8], last: &[u8], reply: &[u8]) {
     say_signal(signal);
-    if kind == 1 {
+    if mtype == 1 {
         say(b": general reject\n");
         return;
     }
     say_named(signal, before, last);
-    if kind == 2 {
+    if mtype == 2 {
         say(b": accepted\n");
         return;
     }

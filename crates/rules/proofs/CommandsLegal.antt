@@ -14,7 +14,8 @@ use Rattle.rules.specs.Endpoints.{Endpoint, Ends, isIdle, isUp, isAwaite
 use Rattle.rules.specs.Endpoints.{farRight, inState, withDelay, withConfig, leaving, endAt, channelRight}
 use Rattle.rules.specs.Endpoints.{movedBy, opened}
 use Rattle.rules.specs.Saved.{pairIn}
-use Rattle.rules.specs.Commands.{Reply, Outcome, stays, moves, lengthRight, ourIn, farIn, isOpen, may, discover, offersAt}
+use Rattle.rules.specs.Commands.{Reply, Outcome, stays, moves, lengthRight, ourIn, farIn, isOpen, may, discover}
+use Rattle.rules.specs.Commands.{offersAt}
 use Rattle.rules.specs.Commands.{settled, setAt, configurationAt, reconfigureAt, openAt, shiftEach}
 use Rattle.rules.specs.Commands.{shift, leaveAt, securityAt, delayAt, signalOf, obey, answer}
 use Rattle.rules.specs.declared.Rule.the-variants.{Setting, Reconfiguring}
@@ -187,5 +188,5 @@ module _ (book : Book) (ends : Ends) (h : LegalEnds book ends) where
   pub answer-legal : (m : Message) → LegalEnds book (answer book ends m .ends)
   unfolding answer
   answer-legal m =
-      if-arms (Leaves book) (eqb (m .type) 0) _ _ (λ t. obey-legal (signalOf (m .signal)) (m .payload))
+      if-arms (Leaves book) (eqb (m .mtype) 0) _ _ (λ t. obey-legal (signalOf (m .signal)) (m .payload))
         (λ f. same-legal book ends h _)

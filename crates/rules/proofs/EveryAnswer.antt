@@ -23,7 +23,7 @@ use Rattle.rules.specs.Saved.{areaFor, connectionIn, savedRight}
 use Rattle.rules.specs.Commands.{Reply, silence, generalReject, accept, reject, answer}
 use Rattle.rules.specs.Host.{checkCall, numberOr, savedNumber, refusalOf, packetRefusal, Kept, freshCall, said, toldOf}
 use Rattle.rules.specs.Host.{payloadOf, turnOf, takes, Answered, packetCall, eventCall, settingsOf, Shown, shownAt}
-use Rattle.rules.specs.Host.{settingsCall, Heard, heardAt, delayCall, packetsCall, Cut, cutRefusal, cutCall, standingAt}
+use Rattle.rules.specs.Host.{settingsCall, heardAt, delayCall, packetsCall, Cut, cutRefusal, cutCall, standingAt}
 use Rattle.rules.specs.Host.{statusCall}
 use Rattle.rules.specs.Sessions.{Call, check, fresh, packet, event, settings, delay, packets, cut, number, told, shown}
 use Rattle.rules.specs.Sessions.{heard, cutOff, kept, answered, asked, call, answers, status, stands}
@@ -34,6 +34,7 @@ use Rattle.rules.specs.declared.OurSeid.{OurSeid}
 use Rattle.rules.specs.declared.Event.{Event}
 use Rattle.rules.specs.declared.Event.the-variants.{Up, Down, Lost}
 use Rattle.rules.specs.declared.Standing.{Standing}
+use Rattle.rules.specs.declared.Heard.{Heard}
 use Rattle.rules.proofs.Tests.{Told?, passed, failed, told as whether, and-l, and-r, between-least, clash}
 use Rattle.rules.proofs.Unrefused.{Unrefused, none-refused, packet-unrefused}
 use Rattle.rules.proofs.SettingsShown.{settings-there, settings-short}
@@ -303,7 +304,7 @@ cut-among size m k area =
     if-arms OfCut (not (ltb k (countOf size m))) 11 _ (λ t. refl) λ f.
     if-arms OfCut (ltb longest (length (m .payload))) 11 _ (λ t. refl) λ f.
     if-arms OfCut (not (ltb (m .label) 16)) 11 _ (λ t. refl) λ f.
-    if-arms OfCut (not (ltb (m .type) 4)) 11 _ (λ t. refl) λ f.
+    if-arms OfCut (not (ltb (m .mtype) 4)) 11 _ (λ t. refl) λ f.
     if-arms OfCut (not (ltb (m .signal) 64)) 11 _ (λ t. refl) λ f.
     if-arms OfCut (ltb (length area) (length (packetAt size m k))) 9 0 (λ t. refl) λ f. refl
 
@@ -365,7 +366,7 @@ pub numbers-given :
     ∷ numberOf traceBook freshArea (packet 47 discover (replicate 64 0))
     ∷ numberOf traceBook freshArea (packet 48 discover (replicate 63 0))
     ∷ numberOf traceBook freshArea (event Event.Up)
-    ∷ numberOf traceBook freshArea (cut 48 (record { label = 1; type = 2; signal = 1; payload = [] }) 1 (replicate 48 0))
+    ∷ numberOf traceBook freshArea (cut 48 (record { label = 1; mtype = 2; signal = 1; payload = [] }) 1 (replicate 48 0))
     ∷ numberOf traceBook [] (packet 48 discover (replicate 64 0))
     ∷ []
   ≡ 1 ∷ 2 ∷ 3 ∷ 4 ∷ 5 ∷ 6 ∷ 7 ∷ 8 ∷ 9 ∷ 10 ∷ 11 ∷ 12 ∷ []

@@ -9,7 +9,8 @@ use lib.Dec.{eqb}
 use Rattle.rules.specs.Octets.{isEmpty}
 use Rattle.rules.specs.Elements.{items, has, couldStore}
 use Rattle.rules.specs.Book.{Entry}
-use Rattle.rules.specs.Endpoints.{Endpoint, idle, isAbsent, isAwaited, isUp, isIdle, isReported, channelRight, takesDelay}
+use Rattle.rules.specs.Endpoints.{Endpoint, idle, isAbsent, isAwaited, isUp, isIdle, isReported, channelRight}
+use Rattle.rules.specs.Endpoints.{takesDelay}
 use Rattle.rules.specs.Endpoints.{delayRight, farRight, keepsNothing, keepsSettings, legalEnd, inState, withChannel}
 use Rattle.rules.specs.Endpoints.{withDelay, withConfig, forgotten, leaving, movedBy, opened}
 use Rattle.rules.specs.Commands.{isConfigured, isOpen, isStreaming, isSet, settled}
@@ -44,7 +45,8 @@ module _ (n : Entry) (e : Endpoint) (h : legalEnd n e ≡ true) where
   busy-keeps i = rw i at (and-r (eqb (e .head .seid .0) (n .seid .0) && channelRight (e .head .state) (e .head .channel)) _ h)
 
 pub busy-legal : (n : Entry) (e : Endpoint) → eqb (e .head .seid .0) (n .seid .0) ≡ true
-    → channelRight (e .head .state) (e .head .channel) ≡ true → isIdle (e .head .state) ≡ false → keepsSettings n e ≡ true → legalEnd n e ≡ true
+    → channelRight (e .head .state) (e .head .channel) ≡ true → isIdle (e .head .state) ≡ false
+    → keepsSettings n e ≡ true → legalEnd n e ≡ true
 unfolding legalEnd
 busy-legal n e s c i k = rw (s, c, i, k)
 

@@ -17,7 +17,8 @@ use Rattle.rules.specs.Saved.{connectionIn, store}
 use Rattle.rules.specs.Commands.{Reply, silence, generalReject, accept, reject, answer}
 use Rattle.rules.specs.Host.{nothingSaid, said, toldOf, payloadOf, Turn, turnOf, takes, packetRefusal, Answered}
 use Rattle.rules.specs.Host.{packetCall, cutRefusal, cutCall, Cut}
-use Rattle.rules.specs.Sessions.{Call, check, fresh, packet, event, settings, delay, packets, cut, told, cutOff, answered}
+use Rattle.rules.specs.Sessions.{Call, check, fresh, packet, event, settings, delay, packets, cut, told, cutOff}
+use Rattle.rules.specs.Sessions.{answered}
 use Rattle.rules.specs.Sessions.{asked, call, answers, after, status}
 use Rattle.rules.specs.Alike.{restrained, afterEvent, cleared, compared}
 
@@ -98,14 +99,14 @@ module _ (b : List ℕ) (size : ℕ) (saved p reply reply′ : List ℕ) (same :
 
 unfoldable cutBy : Bool → ℕ → List ℕ → List ℕ → Cut
 cutBy b number written area =
-    if b then record { number = 0; length = length written; area = front written area }
-    else record { number = number; length = 0; area = area }
+    if b then record { piece = record { number = 0; length = length written }; area = front written area }
+    else record { piece = record { number = number; length = 0 }; area = area }
 
 cut-by-alike : (b : Bool) (number : ℕ) (written area area′ : List ℕ)
     → compared (cutOff (cutBy b number written area)) ≡ compared (cutOff (cutBy b number written area′))
 unfolding cutBy compared
 cut-by-alike true number written area area′ =
-    ap (λ (l : List ℕ). cutOff (record { number = 0; length = length written; area = l }))
+    ap (λ (l : List ℕ). cutOff (record { piece = record { number = 0; length = length written }; area = l }))
       (front-read written area ∙ sym (front-read written area′))
 cut-by-alike false number written area area′ = refl
 

@@ -19,9 +19,10 @@ use Rattle.rules.specs.Endpoints.{Ends, Connection, isUp, awaiting, endA
 use Rattle.rules.specs.Saved.{areaFor, connectionIn, savedRight}
 use Rattle.rules.specs.Host
 use Rattle.rules.specs.Host.{checkCall, numberOr, savedNumber, refusalOf, packetRefusal, Kept, freshCall, nothingSaid}
-use Rattle.rules.specs.Host.{Answered, packetCall, eventCall, Shown, shownAt, settingsCall, Heard, heardAt, delayCall}
+use Rattle.rules.specs.Host.{Answered, packetCall, eventCall, Shown, shownAt, settingsCall, heardAt, delayCall}
 use Rattle.rules.specs.Host.{Cut, cutRefusal, cutCall, standingAt, statusCall, nowhere, standing}
-use Rattle.rules.specs.Sessions.{Call, check, fresh, packet, event, settings, delay, packets, cut, kept, answered, asked}
+use Rattle.rules.specs.Sessions.{Call, check, fresh, packet, event, settings, delay, packets, cut, kept, answered}
+use Rattle.rules.specs.Sessions.{asked}
 use Rattle.rules.specs.Sessions.{call, answers, status}
 use Rattle.rules.specs.Listed.{numberIn, is12}
 use Rattle.rules.specs.declared.OurSeid.{OurSeid}
@@ -30,6 +31,7 @@ use Rattle.rules.specs.declared.Delay.the-variants.{Unreported, Reported
 use Rattle.rules.specs.declared.Event.{Event}
 use Rattle.rules.specs.declared.Event.the-variants.{Up, Down, Lost}
 use Rattle.rules.specs.declared.Standing.{Standing}
+use Rattle.rules.specs.declared.Heard.{Heard}
 use Rattle.rules.proofs.Refused.{refused-packet}
 use Rattle.rules.proofs.Outcomes.{if-arms}
 use Rattle.rules.proofs.SavedStaysRight.{right-long, stays-legal}
@@ -185,15 +187,15 @@ cut-refusal-small size m k area =
     if-arms UpTo11 (not (ltb k (countOf size m))) 11 _ (λ t. lit≤ tt) λ f.
     if-arms UpTo11 (ltb longest (length (m .payload))) 11 _ (λ t. lit≤ tt) λ f.
     if-arms UpTo11 (not (ltb (m .label) 16)) 11 _ (λ t. lit≤ tt) λ f.
-    if-arms UpTo11 (not (ltb (m .type) 4)) 11 _ (λ t. lit≤ tt) λ f.
+    if-arms UpTo11 (not (ltb (m .mtype) 4)) 11 _ (λ t. lit≤ tt) λ f.
     if-arms UpTo11 (not (ltb (m .signal) 64)) 11 _ (λ t. lit≤ tt) λ f.
     if-arms UpTo11 (ltb (length area) (length (packetAt size m k))) 9 0 (λ t. lit≤ tt) λ f. lit≤ tt
 
-cut-not-12 : (size : ℕ) (m : Message) (k : ℕ) (area : List ℕ) → Not12 (cutCall size m k area .number)
+cut-not-12 : (size : ℕ) (m : Message) (k : ℕ) (area : List ℕ) → Not12 (cutCall size m k area .piece .number)
 unfolding cutCall
 cut-not-12 size m k area =
     let n = cutRefusal size m k area in
-    if-arms (λ (c : Cut). Not12 (c .number)) (eqb n 0) _ _ (λ t. below-12 0 (lit≤ tt))
+    if-arms (λ (c : Cut). Not12 (c .piece .number)) (eqb n 0) _ _ (λ t. below-12 0 (lit≤ tt))
       (λ f. below-12 n (cut-refusal-small size m k area))
 
 -- ---- Every call, and every call of a sequence

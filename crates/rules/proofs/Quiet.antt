@@ -17,12 +17,13 @@ use Rattle.rules.proofs.View.{view-step, begins-view}
 use Rattle.rules.proofs.LentAreas.{answers-cleared, after-cleared, restrained-cleared}
 use Rattle.rules.specs.Octets.{if_then_else_, isEmpty}
 use Rattle.rules.specs.Elements.{items}
-use Rattle.rules.specs.Book.{Entry, Book, Found, unknown, known, find, bookNumber, bookOf, written, upToCodec, shownBy02}
+use Rattle.rules.specs.Book.{Entry, Book, Found, unknown, known, find, bookNumber, bookOf, written, upToCodec}
+use Rattle.rules.specs.Book.{shownBy02}
 use Rattle.rules.specs.Packets.{Message, Gathering, sizeRight, gather}
 use Rattle.rules.specs.Endpoints.{Ends, Connection, freshConnection, isUp, endAt, awaiting, withEnds, Moved, downAt}
 use Rattle.rules.specs.Endpoints.{happens}
 use Rattle.rules.specs.Saved.{connectionIn}
-use Rattle.rules.specs.Host.{turnOf, takes, settingsOf, shownAt, Heard, heardAt, standingAt}
+use Rattle.rules.specs.Host.{turnOf, takes, settingsOf, shownAt, heardAt, standingAt}
 use Rattle.rules.specs.Sessions
 use Rattle.rules.specs.Sessions.{Call, check, fresh, packet, event, settings, delay, packets, cut, number, shown, heard}
 use Rattle.rules.specs.Sessions.{call, after, status, stands}
@@ -31,6 +32,7 @@ use Rattle.rules.specs.Alike.{alikeEntry, alike, usesIn, afterEvent, res
 use Rattle.rules.specs.declared.Event.{Event}
 use Rattle.rules.specs.declared.Event.the-variants.{Down, Lost}
 use Rattle.rules.specs.declared.Standing.{Standing}
+use Rattle.rules.specs.declared.Heard.{Heard}
 
 -- ---- One packet
 

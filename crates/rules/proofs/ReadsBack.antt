@@ -11,7 +11,7 @@ use lib.Dec.{ltb, eqb, lit<, lit≤}
 use borrow.Author.Tests.{le-ltb}
 use Rattle.rules.specs.Octets.{if_then_else_, between}
 use Rattle.rules.specs.Packets.{Message, single, start, further, aSingle, aStart, aContinue, anEnd, sizeRight}
-use Rattle.rules.specs.Packets.{labelIn, typeIn, signalIn, kindIn, messageFrom, readAs, read, packetIn}
+use Rattle.rules.specs.Packets.{labelIn, mtypeIn, signalIn, packetTypeIn, messageFrom, readAs, read, packetIn}
 use Rattle.rules.specs.Packets.{Gathering, completes, gathers, taken, gather}
 use Rattle.rules.specs.Cutting.{avdtp, partOf, firstOctet, header, countOf, packetAt, packetsFrom, cutUp}
 use Rattle.rules.specs.Gathered.{withDone, gatherAll}
@@ -82,7 +82,7 @@ packets-full size m k right b =
 -- the numbers that the headers have room for
 pub record HasRoom (m : Message) : Type 0 where
   pub label-small : m .label < 16
-  pub type-small : m .type < 4
+  pub type-small : m .mtype < 4
   pub signal-small : m .signal < 64
 
 module _ (m : Message) (r : HasRoom m) where
@@ -90,17 +90,17 @@ module _ (m : Message) (r : HasRoom m) where
   unfolding labelIn firstOctet
   label-back t b = omega arith
 
-  type-back : (t : ℕ) → typeIn (firstOctet t m) ≡ m .type
-  unfolding typeIn firstOctet
-  type-back t = omega arith
+  mtype-back : (t : ℕ) → mtypeIn (firstOctet t m) ≡ m .mtype
+  unfolding mtypeIn firstOctet
+  mtype-back t = omega arith
 
-  kind-number : (t : ℕ) → t < 4 → firstOctet t m / 4 % 4 ≡ t
+  packet-type-number : (t : ℕ) → t < 4 → firstOctet t m / 4 % 4 ≡ t
   unfolding firstOctet
-  kind-number t b = omega arith
+  packet-type-number t b = omega arith
 
-  kind-back : (t : ℕ) → t < 4 → kindIn (firstOctet t m) ≡ getD (aSingle ∷ aStart ∷ aContinue ∷ anEnd ∷ []) t aSingle
-  unfolding kindIn
-  kind-back t b = rw kind-number
+  packet-type-back : (t : ℕ) → t < 4 → packetTypeIn (firstOctet t m) ≡ getD (aSingle ∷ aStart ∷ aContinue ∷ anEnd ∷ []) t aSingle
+  unfolding packetTypeIn
+  packet-type-back t b = rw packet-type-number
 
   signal-back : signalIn (m .signal) ≡ m .signal
   unfolding signalIn
@@ -111,14 +111,14 @@ module _ (m : Message) (r : HasRoom m) where
       → read ((if b then firstOctet 0 m ∷ m .signal ∷ [] else firstOctet 1 m ∷ n ∷ m .signal ∷ []) ++ p)
       ≡ if b then single (holding m p) else start n (holding m p)
   unfolding read readAs messageFrom
-  read-first true n p = rw (kind-back 0 (lit< tt), label-back 0 (lit< tt), type-back 0, signal-back)
-  read-first false n p = rw (kind-back 1 (lit< tt), label-back 1 (lit< tt), type-back 1, signal-back)
+  read-first true n p = rw (packet-type-back 0 (lit< tt), label-back 0 (lit< tt), mtype-back 0, signal-back)
+  read-first false n p = rw (packet-type-back 1 (lit< tt), label-back 1 (lit< tt), mtype-back 1, signal-back)
 
   read-further : (b : Bool) (p : List ℕ)
-      → read ((if b then firstOctet 2 m ∷ [] else firstOctet 3 m ∷ []) ++ p) ≡ further (not b) (m .label) (m .type) p
+      → read ((if b then firstOctet 2 m ∷ [] else firstOctet 3 m ∷ []) ++ p) ≡ further (not b) (m .label) (m .mtype) p
   unfolding read readAs
-  read-further true p = rw (kind-back 2 (lit< tt), label-back 2 (lit< tt), type-back 2)
-  read-further false p = rw (kind-back 3 (lit< tt), label-back 3 (lit< tt), type-back 3)
+  read-further true p = rw (packet-type-back 2 (lit< tt), label-back 2 (lit< tt), mtype-back 2)
+  read-further false p = rw (packet-type-back 3 (lit< tt), label-back 3 (lit< tt), mtype-back 3)
 
 -- ---- A message reads back
 
@@ -154,7 +154,7 @@ module _ (size : ℕ) (m : Message) (right : sizeRight size ≡ true) (r : HasRo
         (rest-back n 0 (omega arith))
 
 pub reads-back : (size : ℕ) (m : Message) (g : Option Gathering) → sizeRight size ≡ true
-    → m .label < 16 → m .type < 4 → m .signal < 64 → length (m .payload) ≤ 512
+    → m .label < 16 → m .mtype < 4 → m .signal < 64 → length (m .payload) ≤ 512
     → gatherAll size g (cutUp size m) ≡ record { gathering = none; messages = m ∷ [] }
 unfolding cutUp
 reads-back size m g right l t s short =
@@ -163,10 +163,10 @@ reads-back size m g right l t s short =
 -- ---- The hypotheses can be met: three packets at size 48, with the largest numbers, after the start of another message
 
 abbrev pub sample : Message
-sample = record { label = 15; type = 3; signal = 63; payload = replicate 93 0xAB }
+sample = record { label = 15; mtype = 3; signal = 63; payload = replicate 93 0xAB }
 
 abbrev pub another : Gathering
-another = record { message = record { label = 1; type = 0; signal = 3; payload = 4 ∷ [] }; count = 3; parts = 1 }
+another = record { message = record { label = 1; mtype = 0; signal = 3; payload = 4 ∷ [] }; count = 3; parts = 1 }
 
 pub sample-back : gatherAll 48 (some another) (cutUp 48 sample) ≡ record { gathering = none; messages = sample ∷ [] }
 unfolding sizeRight between

@@ -15,14 +15,16 @@ use Rattle.rules.specs.Cutting.{packetAt}
 use Rattle.rules.specs.Endpoints.{Ends, Connection, freshConnection, happens, endAt}
 use Rattle.rules.specs.Saved.{areaFor, connectionIn, store}
 use Rattle.rules.specs.Commands.{Reply, silence, generalReject, accept, reject, answer}
-use Rattle.rules.specs.Host.{numberOr, nothingSaid, said, toldOf, payloadOf, Turn, turnOf, takes, packetRefusal, Answered}
-use Rattle.rules.specs.Host.{packetCall, Kept, freshCall, eventCall, Shown, shownAt, settingsCall, Heard, heard, heardAt}
+use Rattle.rules.specs.Host.{numberOr, nothingSaid, said, toldOf, payloadOf, Turn, turnOf, takes, packetRefusal}
+use Rattle.rules.specs.Host.{Answered}
+use Rattle.rules.specs.Host.{packetCall, Kept, freshCall, eventCall, Shown, shownAt, settingsCall, heard, heardAt}
 use Rattle.rules.specs.Host.{delayCall, refusalOf, Cut, cutRefusal, cutCall, standingAt, statusCall, nowhere, standing}
 use Rattle.rules.specs.declared.OurSeid.{OurSeid}
 use Rattle.rules.specs.declared.Delay.{Delay}
 use Rattle.rules.specs.declared.Delay.the-variants.{Unreported, Reported}
 use Rattle.rules.specs.declared.Event.{Event}
 use Rattle.rules.specs.declared.Standing.{Standing}
+use Rattle.rules.specs.declared.Heard.{Heard}
 use Rattle.rules.proofs.Tests.{told}
 
 pub nothing-written : (area : List ℕ) → front [] area ≡ area
@@ -102,25 +104,25 @@ refused-packet book size saved p reply =
       saved reply (takes-number (bookOf book) size (connectionIn (length (bookOf book)) saved) p)
 
 -- Silence: the number is 0 and no message type is told, and the reply area stays.
-type-silent : (m : Message) (r : Reply) → toldOf m r .type ≡ 0 → payloadOf r ≡ []
+type-silent : (m : Message) (r : Reply) → toldOf m r .mtype ≡ 0 → payloadOf r ≡ []
 unfolding toldOf payloadOf nothingSaid said
 type-silent m silence e = refl
 type-silent m generalReject e = refl
 type-silent m (accept p) e = absurd (omega arith)
 type-silent m (reject p) e = absurd (omega arith)
 
-turn-silent : (book : Book) (ends : Ends) (g : Option Gathering) (m : Option Message) → turnOf book ends g m .told .type ≡ 0
+turn-silent : (book : Book) (ends : Ends) (g : Option Gathering) (m : Option Message) → turnOf book ends g m .told .mtype ≡ 0
   → turnOf book ends g m .payload ≡ []
 unfolding turnOf
 turn-silent book ends g none e = refl
 turn-silent book ends g (some m) e = type-silent m (answer book ends m .reply) e
 
-packet-silent : (number : ℕ) (t : Turn) (saved reply : List ℕ) → (t .told .type ≡ 0 → t .payload ≡ [])
+packet-silent : (number : ℕ) (t : Turn) (saved reply : List ℕ) → (t .told .mtype ≡ 0 → t .payload ≡ [])
   → let a : Answered =
           if eqb number 0
           then record { told = t .told; saved = store (t .connection) saved; reply = front (t .payload) reply }
           else record { told = nothingSaid number; saved = saved; reply = reply } in
-    a .told .type ≡ 0 → a .reply ≡ reply
+    a .told .mtype ≡ 0 → a .reply ≡ reply
 packet-silent number t saved reply z = by (eqb number 0)
   where
     by : (b : Bool)
@@ -128,12 +130,12 @@ packet-silent number t saved reply z = by (eqb number 0)
               if b
               then record { told = t .told; saved = store (t .connection) saved; reply = front (t .payload) reply }
               else record { told = nothingSaid number; saved = saved; reply = reply } in
-        a .told .type ≡ 0 → a .reply ≡ reply
+        a .told .mtype ≡ 0 → a .reply ≡ reply
     by true h = ap (λ (x : List ℕ). front x reply) (z h) ∙ nothing-written reply
     by false h = refl
 
 pub silent-packet : (book : List ℕ) (size : ℕ) (saved p reply : List ℕ)
-  → packetCall book size saved p reply .told .type ≡ 0 → packetCall book size saved p reply .reply ≡ reply
+  → packetCall book size saved p reply .told .mtype ≡ 0 → packetCall book size saved p reply .reply ≡ reply
 unfolding packetCall takes
 silent-packet book size saved p reply =
     let c = connectionIn (length (bookOf book)) saved in
@@ -204,15 +206,18 @@ refused-status book saved s = by (eqb (refusalOf book saved) 0)
     by true h = none-stands (find s (bookOf book)) (connectionIn (length (bookOf book)) saved .ends) h
     by false h = refl
 
-pub refused-cut : (size : ℕ) (m : Message) (k : ℕ) (area : List ℕ) → (cutCall size m k area .number ≡ 0 → ⊥)
-  → cutCall size m k area ≡ record { number = cutCall size m k area .number; length = 0; area = area }
+pub refused-cut : (size : ℕ) (m : Message) (k : ℕ) (area : List ℕ) → (cutCall size m k area .piece .number ≡ 0 → ⊥)
+  → cutCall size m k area
+    ≡ record { piece = record { number = cutCall size m k area .piece .number; length = 0 }; area = area }
 unfolding cutCall
 refused-cut size m k area = by (eqb (cutRefusal size m k area) 0)
   where
     by : (b : Bool)
       → let x : Cut =
-              if b then record { number = 0; length = length (packetAt size m k); area = front (packetAt size m k) area }
-              else record { number = cutRefusal size m k area; length = 0; area = area } in
-        (x .number ≡ 0 → ⊥) → x ≡ record { number = x .number; length = 0; area = area }
+              if b
+              then record { piece = record { number = 0; length = length (packetAt size m k) };
+                            area = front (packetAt size m k) area }
+              else record { piece = record { number = cutRefusal size m k area; length = 0 }; area = area } in
+        (x .piece .number ≡ 0 → ⊥) → x ≡ record { piece = record { number = x .piece .number; length = 0 }; area = area }
     by true h = absurd (h refl)
     by false h = refl

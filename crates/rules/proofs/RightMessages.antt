@@ -10,9 +10,12 @@ use lib.ListN.{length, length-append}
 use lib.Dec.{leb, ltb}
 use borrow.Author.Tests.{leb-true, ltb-true, lt-ltb, le-leb}
 use Rattle.rules.specs.Octets.{between}
-use Rattle.rules.specs.Packets.{Message, labelIn, typeIn, signalIn, Packet, single, start, further, wrong, Kind, aSingle}
-use Rattle.rules.specs.Packets.{aStart, aContinue, anEnd, kindIn, messageFrom, readAs, read, packetIn, Gathering, Step}
-use Rattle.rules.specs.Packets.{ended, completes, gathers, extended, begin, isNext, joined, goesOn, taken, gather, longest}
+use Rattle.rules.specs.Packets.{Message, labelIn, mtypeIn, signalIn, Packet, single, start, further, wrong, PacketType}
+use Rattle.rules.specs.Packets.{aSingle}
+use Rattle.rules.specs.Packets.{aStart, aContinue, anEnd, packetTypeIn, messageFrom, readAs, read, packetIn, Gathering}
+use Rattle.rules.specs.Packets.{Step}
+use Rattle.rules.specs.Packets.{ended, completes, gathers, extended, begin, isNext, joined, goesOn, taken, gather}
+use Rattle.rules.specs.Packets.{longest}
 use Rattle.rules.specs.Packets.{gatheringRight}
 use Rattle.rules.specs.Endpoints.{legalGathering}
 use Rattle.rules.proofs.Tests.{and-l, and-r, between-least}
@@ -21,7 +24,7 @@ use Rattle.rules.proofs.Outcomes.{if-arms}
 -- ---- Messages as they are read
 
 unfoldable pub headRight : Message → Bool
-headRight m = ltb (m .label) 16 && ltb (m .type) 4 && ltb (m .signal) 64
+headRight m = ltb (m .label) 16 && ltb (m .mtype) 4 && ltb (m .signal) 64
 
 unfoldable pub messageRight : Message → Bool
 messageRight m = headRight m && leb (length (m .payload)) longest
@@ -29,17 +32,17 @@ messageRight m = headRight m && leb (length (m .payload)) longest
 packetRight : Packet → Bool
 packetRight (single m) = headRight m
 packetRight (start n m) = headRight m
-packetRight (further last label type p) = true
+packetRight (further last label mtype p) = true
 packetRight wrong = true
 
 below : (n m : ℕ) → ltb 0 m ≡ true → ltb (n % m) m ≡ true
 below n m h = lt-ltb (n % m) m (mod-lt n (ltb-true 0 m h))
 
 head-right : (h s : ℕ) (p : List ℕ) → headRight (messageFrom h s p) ≡ true
-unfolding headRight messageFrom labelIn typeIn signalIn
+unfolding headRight messageFrom labelIn mtypeIn signalIn
 head-right h s p = rw (below (h / 16) 16 refl, below h 4 refl, below s 64 refl)
 
-read-right : (k : Kind) (h : ℕ) (p : List ℕ) → packetRight (readAs k h p) ≡ true
+read-right : (k : PacketType) (h : ℕ) (p : List ℕ) → packetRight (readAs k h p) ≡ true
 unfolding readAs packetRight
 read-right aSingle h [] = refl
 read-right aSingle h (s ∷ p) = head-right h s p
@@ -53,7 +56,7 @@ packet-right : (size : ℕ) (p : List ℕ) → packetRight (packetIn size p) ≡
 unfolding packetIn read packetRight
 packet-right size [] = if-arms (λ k. packetRight k ≡ true) (ltb size 0) _ _ (λ t. refl) (λ f. refl)
 packet-right size (h ∷ p) =
-    if-arms (λ k. packetRight k ≡ true) (ltb size (length (h ∷ p))) _ _ (λ t. refl) (λ f. read-right (kindIn h) h p)
+    if-arms (λ k. packetRight k ≡ true) (ltb size (length (h ∷ p))) _ _ (λ t. refl) (λ f. read-right (packetTypeIn h) h p)
 
 -- ---- Steps of the gathering
 
@@ -78,9 +81,9 @@ gathers-right : (g : Gathering) → headRight (g .message) ≡ true → leb (len
 unfolding gathers legalGathering doneRight gatheringRight headRight
 gathers-right g h l c s p =
     let label : ltb (g .message .label) 16 ≡ true = search (and-l, and-r) in
-    let type : ltb (g .message .type) 4 ≡ true = search (and-l, and-r) in
+    let mtype : ltb (g .message .mtype) 4 ≡ true = search (and-l, and-r) in
     let signal : ltb (g .message .signal) 64 ≡ true = search (and-l, and-r) in
-    record { gathering = rw (l, c, s, p, label, type, signal); done = refl }
+    record { gathering = rw (l, c, s, p, label, mtype, signal); done = refl }
 
 -- what a gathering says of its message
 module _ (g : Gathering) (h : gatheringRight g ≡ true) where
@@ -88,17 +91,17 @@ module _ (g : Gathering) (h : gatheringRight g ≡ true) where
   unfolding gatheringRight headRight
   gathered-head =
       let label : ltb (g .message .label) 16 ≡ true = search (and-l, and-r) depth 7 in
-      let type : ltb (g .message .type) 4 ≡ true = search (and-l, and-r) depth 7 in
+      let mtype : ltb (g .message .mtype) 4 ≡ true = search (and-l, and-r) depth 7 in
       let signal : ltb (g .message .signal) 64 ≡ true = search (and-l, and-r) depth 7 in
-      rw (label, type, signal)
+      rw (label, mtype, signal)
 
   gathered-count : between 2 255 (g .count) ≡ true
   unfolding gatheringRight
   gathered-count = search (and-l, and-r) depth 7
 
   -- a further part that is the next right one
-  module _ (label type : ℕ) (p : List ℕ) where
-    joined-right : (last : Bool) → isNext g last label type p ≡ true → RightStep (joined g last p)
+  module _ (label mtype : ℕ) (p : List ℕ) where
+    joined-right : (last : Bool) → isNext g last label mtype p ≡ true → RightStep (joined g last p)
     unfolding isNext joined extended headRight
     joined-right true n =
         let fits : leb (length (g .message .payload) + length p) longest ≡ true = search (and-l, and-r) in
@@ -108,12 +111,12 @@ module _ (g : Gathering) (h : gatheringRight g ≡ true) where
         let more : ltb (suc (g .parts)) (g .count) ≡ true = search (and-l, and-r) in
         gathers-right _ gathered-head (rw length-append fits) gathered-count (le-leb 1 (suc (g .parts)) (omega arith)) more
 
-goes-on-right : (g : Option Gathering) → legalGathering g ≡ true → (last : Bool) (label type : ℕ) (p : List ℕ)
-    → RightStep (goesOn g last label type p)
+goes-on-right : (g : Option Gathering) → legalGathering g ≡ true → (last : Bool) (label mtype : ℕ) (p : List ℕ)
+    → RightStep (goesOn g last label mtype p)
 unfolding goesOn legalGathering
-goes-on-right none h last label type p = ended-right
-goes-on-right (some g) h last label type p =
-    if-arms RightStep (isNext g last label type p) _ _ (joined-right g h label type p last) (λ f. ended-right)
+goes-on-right none h last label mtype p = ended-right
+goes-on-right (some g) h last label mtype p =
+    if-arms RightStep (isNext g last label mtype p) _ _ (joined-right g h label mtype p last) (λ f. ended-right)
 
 begin-right : (n : ℕ) (m : Message) → headRight m ≡ true → RightStep (begin n m)
 unfolding begin
@@ -131,7 +134,7 @@ unfolding taken packetRight
 taken-right g (single m) h r =
     if-arms RightStep (leb (length (m .payload)) longest) _ _ (completes-right m r) (λ f. ended-right)
 taken-right g (start n m) h r = begin-right n m r
-taken-right g (further last label type p) h r = goes-on-right g h last label type p
+taken-right g (further last label mtype p) h r = goes-on-right g h last label mtype p
 taken-right g wrong h r = ended-right
 
 pub gather-right : (size : ℕ) (g : Option Gathering) (p : List ℕ) → legalGathering g ≡ true → RightStep (gather size g p)
@@ -140,7 +143,7 @@ gather-right size g p h = taken-right g (packetIn size p) h (packet-right size p
 
 pub record Bounded (m : Message) : Type 0 where
   pub label : m .label < 16
-  pub type : m .type < 4
+  pub mtype : m .mtype < 4
   pub signal : m .signal < 64
   pub payload : length (m .payload) ≤ longest
 
@@ -149,7 +152,7 @@ unfolding messageRight headRight
 bounded m h =
     record {
       label = ltb-true (m .label) 16 (search (and-l, and-r));
-      type = ltb-true (m .type) 4 (search (and-l, and-r));
+      mtype = ltb-true (m .mtype) 4 (search (and-l, and-r));
       signal = ltb-true (m .signal) 64 (search (and-l, and-r));
       payload = leb-true (length (m .payload)) longest (search (and-l, and-r))
     }

@@ -20,7 +20,7 @@ use Rattle.rules.specs.Packets.{Gathering, longest}
 use Rattle.rules.specs.Endpoints.{Endpoint, Ends, Connection, freshConnection}
 use Rattle.rules.specs.Saved.{countRoom, gatheringRoom, linkRoom, recordsPlace, recordRoom, headRoom, configRoom}
 use Rattle.rules.specs.Saved.{areaFor, countIn, linkOf, recordsOf, unused, pairIn, stateIn, stateOctet, channelIn}
-use Rattle.rules.specs.Saved.{channelOctet}
+use Rattle.rules.specs.Saved.{channelOctet, payloadLengthIn}
 use Rattle.rules.specs.Saved.{delayIn, delayMark, delayTenths, headIn, configIn, endpointIn, recordRight, headOctets}
 use Rattle.rules.specs.Saved.{storeEnd, endsIn, recordsRight, storeEnds, gatheringAt, gatheringIn, gatheringOctetsRight}
 use Rattle.rules.specs.Saved.{gatheringHead, storeGathering, connectionIn, store}
@@ -94,7 +94,7 @@ gathering-back (some g) r = λ i.
       message =
         record {
           label = g .message .label;
-          type = g .message .type;
+          mtype = g .message .mtype;
           signal = g .message .signal;
           payload =
             take-at (g .message .payload) (drop (length (gatheringHead g ++ g .message .payload)) r) _
@@ -416,34 +416,30 @@ module _ (r : List ℕ) (long : length r ≡ recordRoom) (right : recordRight r 
   unfolding storeEnd endpointIn configIn
   end-kept = body-kept headRoom (headOctets (headIn r) (length (configIn r))) (getD r 7 0) r head-kept config-room
 
--- the payload's length, as its two octets say
-abbrev payloadLength : List ℕ → ℕ
-payloadLength r = pairIn (getD r 6 0) (getD r 7 0)
-
-gathering-head-kept : (r : List ℕ) → getD r 0 0 ≡ 1 → 8 + payloadLength r ≤ length r → octetsIn r ≡ true
+gathering-head-kept : (r : List ℕ) → getD r 0 0 ≡ 1 → 8 + payloadLengthIn r ≤ length r → octetsIn r ≡ true
     → gatheringHead (gatheringAt r) ≡ take 8 r
 unfolding gatheringHead gatheringAt
 gathering-head-kept r mark room octets =
-    rw (← first-eight r (omega arith), mark, body-length 8 (payloadLength r) r room,
+    rw (← first-eight r (omega arith), mark, body-length 8 (payloadLengthIn r) r room,
         digits-div (getD r 6 0) (octet-at r 7 octets), digits-mod (getD r 6 0) (octet-at r 7 octets))
 
 pub gathering-kept : (r : List ℕ) → length r ≡ gatheringRoom → gatheringOctetsRight r ≡ true → octetsIn r ≡ true
     → storeGathering (gatheringIn r) r ≡ r
 unfolding gatheringOctetsRight gatheringIn storeGathering gatheringAt longest
 gathering-kept r long right octets =
-    go (either (eqb (getD r 0 0) 0) (eqb (getD r 0 0) 1 && leb (payloadLength r) longest) right)
+    go (either (eqb (getD r 0 0) 0) (eqb (getD r 0 0) 1 && leb (payloadLengthIn r) longest) right)
   where
-    go : (eqb (getD r 0 0) 0 ≡ true) ⊎ (eqb (getD r 0 0) 1 && leb (payloadLength r) longest ≡ true)
+    go : (eqb (getD r 0 0) 0 ≡ true) ⊎ (eqb (getD r 0 0) 1 && leb (payloadLengthIn r) longest ≡ true)
         → storeGathering (gatheringIn r) r ≡ r
     go (inl t) =
         let first = take-suc r 0 0 (omega arith) in
         rw t (front-same (0 ∷ []) r 1 (sym (rw (eqb-true (getD r 0 0) 0 t) at first)) (omega arith))
     go (inr t) =
-        let mark = eqb-true (getD r 0 0) 1 (and-l _ (leb (payloadLength r) longest) t) in
-        let fits = leb-true (payloadLength r) 512 (and-r (eqb (getD r 0 0) 1) _ t) in
-        let room : 8 + payloadLength r ≤ length r = omega arith in
+        let mark = eqb-true (getD r 0 0) 1 (and-l _ (leb (payloadLengthIn r) longest) t) in
+        let fits = leb-true (payloadLengthIn r) 512 (and-r (eqb (getD r 0 0) 1) _ t) in
+        let room : 8 + payloadLengthIn r ≤ length r = omega arith in
         rw mark
-          (body-kept 8 (gatheringHead (gatheringAt r)) (payloadLength r) r (gathering-head-kept r mark room octets) room)
+          (body-kept 8 (gatheringHead (gatheringAt r)) (payloadLengthIn r) r (gathering-head-kept r mark room octets) room)
 
 pub ends-kept : (n : ℕ) (l : List ℕ) → n * recordRoom ≤ length l → recordsRight n l ≡ true → octetsIn l ≡ true
     → storeEnds (endsIn n l) l ≡ l

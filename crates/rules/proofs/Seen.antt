@@ -12,7 +12,8 @@ use Rattle.rules.specs.Endpoints.{Ends, Connection, endAt, idle, legalEn
 use Rattle.rules.specs.Saved.{connectionIn, savedRight}
 use Rattle.rules.specs.Commands.{Reply, silence, generalReject, accept, reject, answer}
 use Rattle.rules.specs.Host.{toldOf, said, turnOf, takes, packetCall}
-use Rattle.rules.specs.Sessions.{Call, packet, Answer, number, told, shown, heard, counted, cutOff, call, answered, after}
+use Rattle.rules.specs.Sessions.{Call, packet, Answer, number, told, shown, heard, counted, cutOff, call, answered}
+use Rattle.rules.specs.Sessions.{after}
 use Rattle.rules.specs.Sessions.{stands}
 use Rattle.rules.specs.Views.{Stepped, packetNumber, says, goes}
 use Rattle.rules.specs.Moves.{isAccept, shiftsIn}
@@ -43,7 +44,7 @@ idle-after b saved ok right calls =
     idle-at book (c .ends) (lawful .every)
 
 -- not accepted: the message type is not 2
-type-of : (m : Message) (r : Reply) → (toldOf m r .type ≡ 2 → ⊥) → isAccept r ≡ false
+type-of : (m : Message) (r : Reply) → (toldOf m r .mtype ≡ 2 → ⊥) → isAccept r ≡ false
 unfolding toldOf said isAccept
 type-of m silence h = refl
 type-of m generalReject h = refl
@@ -51,27 +52,27 @@ type-of m (accept p) h = absurd (h refl)
 type-of m (reject p) h = refl
 
 turn-unmoved : (book : Book) (ends : Ends) (g : Option Gathering) (m : Option Message) → shiftsIn m ≡ false
-  → (turnOf book ends g m .told .type ≡ 2 → ⊥) → turnOf book ends g m .connection .ends ≡ ends
+  → (turnOf book ends g m .told .mtype ≡ 2 → ⊥) → turnOf book ends g m .connection .ends ≡ ends
 unfolding turnOf shiftsIn
 turn-unmoved book ends g none t h = refl
 turn-unmoved book ends g (some m) t h = unmoved book ends m t (type-of m (answer book ends m .reply) h)
 
 takes-unmoved : (book : Book) (size : ℕ) (c : Connection) (p : List ℕ)
   → shiftsIn (gather size (c .link .gathering) p .done) ≡ false
-  → (takes book size c p .told .type ≡ 2 → ⊥) → takes book size c p .connection .ends ≡ c .ends
+  → (takes book size c p .told .mtype ≡ 2 → ⊥) → takes book size c p .connection .ends ≡ c .ends
 unfolding takes
 takes-unmoved book size c p =
     turn-unmoved book (c .ends) (gather size (c .link .gathering) p .gathering) (gather size (c .link .gathering) p .done)
 
 -- the message type in an answer
-typeIn : Answer → ℕ
-typeIn (number n) = 0
-typeIn (told t reply) = t .type
-typeIn (shown s) = 0
-typeIn (heard h) = 0
-typeIn (stands t) = 0
-typeIn (counted n) = 0
-typeIn (cutOff c) = 0
+mtypeIn : Answer → ℕ
+mtypeIn (number n) = 0
+mtypeIn (told t reply) = t .mtype
+mtypeIn (shown s) = 0
+mtypeIn (heard h) = 0
+mtypeIn (stands t) = 0
+mtypeIn (counted n) = 0
+mtypeIn (cutOff c) = 0
 
 module _ (b : List ℕ) (size : ℕ) (saved p reply : List ℕ) (ok : bookNumber b ≡ 0)
     (right : savedRight (bookOf b) saved ≡ true) where
@@ -84,14 +85,14 @@ module _ (b : List ℕ) (size : ℕ) (saved p reply : List ℕ) (ok : bookNumber
 
   -- A packet that completes no Start and no Suspend and is not answered with an accept moves no endpoint.
   packet-stays : Told? (eqb (packetNumber size reply) 0) → shiftsIn (gather size (start .link .gathering) p .done) ≡ false
-    → (packetCall b size saved p reply .told .type ≡ 2 → ⊥) → goes (bookOf b) start (packet size p reply) .ends ≡ start .ends
-  unfolding goes says call answered typeIn
+    → (packetCall b size saved p reply .told .mtype ≡ 2 → ⊥) → goes (bookOf b) start (packet size p reply) .ends ≡ start .ends
+  unfolding goes says call answered mtypeIn
   packet-stays (failed refused) t h = rw refused
   packet-stays (passed taken) t h =
-      rw taken (takes-unmoved (bookOf b) size start p t (λ e. h (ap typeIn (step .answer) ∙ rw taken e)))
+      rw taken (takes-unmoved (bookOf b) size start p t (λ e. h (ap mtypeIn (step .answer) ∙ rw taken e)))
 
   pub packet-unmoved : shiftsIn (gather size (connectionIn (length (bookOf b)) saved .link .gathering) p .done) ≡ false
-    → (packetCall b size saved p reply .told .type ≡ 2 → ⊥)
+    → (packetCall b size saved p reply .told .mtype ≡ 2 → ⊥)
     → connectionIn (length (bookOf b)) (packetCall b size saved p reply .saved) .ends
       ≡ connectionIn (length (bookOf b)) saved .ends
   unfolding start call answered

@@ -17,13 +17,14 @@ use Rattle.rules.specs.Endpoints.{Ends, Connection}
 use Rattle.rules.specs.Saved.{areaFor, connectionIn, savedRight}
 use Rattle.rules.specs.Commands.{Reply, silence, generalReject, accept, reject, rejects, Outcome, stays, signalOf}
 use Rattle.rules.specs.Commands.{obey, answer}
-use Rattle.rules.specs.Host.{Told, toldOf, said, nothingSaid, payloadOf, turnOf, takes, packetCall, freshCall}
+use Rattle.rules.specs.Host.{toldOf, said, nothingSaid, payloadOf, turnOf, takes, packetCall, freshCall}
 use Rattle.rules.specs.Sessions.{packet, event, Answer, number, told, shown, heard, counted, cutOff, call, answered}
 use Rattle.rules.specs.Sessions.{after, stands}
 use Rattle.rules.specs.Views.{Stepped, packetNumber, says, goes}
 use Rattle.rules.specs.Moves.{Stopped, isAccept, shifts, shiftsTo, RejectSeen, StoppedSeen}
 use Rattle.rules.specs.Table.{traceBook, replyArea, setConfiguration1}
 use Rattle.rules.specs.declared.Event.{Event}
+use Rattle.rules.specs.declared.Told.{Told}
 use Rattle.rules.proofs.Tests.{Told?, passed, failed, told as whether, and-l, and-r, clash}
 use Rattle.rules.proofs.SavedStaysRight.{always-legal, trace-book-right, trace-area-right}
 use Rattle.rules.proofs.Moves.{start-stops, suspend-stops, start-of-none, suspend-of-none}
@@ -57,8 +58,8 @@ module _ (book : Book) (ends : Ends) where
       → Stopped (signalOf (m .signal)) (shiftsTo (m .signal)) book ends (m .payload) (answer book ends m)
   unfolding shifts answer
   message-stops m shift lists e =
-      let command = and-l (eqb (m .type) 0) (eqb (m .signal) 0x07 || eqb (m .signal) 0x09) shift in
-      let signal = and-r (eqb (m .type) 0) (eqb (m .signal) 0x07 || eqb (m .signal) 0x09) shift in
+      let command = and-l (eqb (m .mtype) 0) (eqb (m .signal) 0x07 || eqb (m .signal) 0x09) shift in
+      let signal = and-r (eqb (m .mtype) 0) (eqb (m .signal) 0x07 || eqb (m .signal) 0x09) shift in
       rw command (stops-by (m .payload) (m .signal) lists signal (whether (eqb (m .signal) 0x07)) (rw command at e))
 
 -- its reject has two octets
@@ -72,7 +73,7 @@ two-octets : (m : Message) (what code : ℕ) → shifts m ≡ true → rejects (
     ≡ reject (what ∷ code ∷ [])
 unfolding shifts
 two-octets m what code shift =
-    two-by (m .signal) what code (and-r (eqb (m .type) 0) (eqb (m .signal) 0x07 || eqb (m .signal) 0x09) shift)
+    two-by (m .signal) what code (and-r (eqb (m .mtype) 0) (eqb (m .signal) 0x07 || eqb (m .signal) 0x09) shift)
       (whether (eqb (m .signal) 0x07))
 
 -- One that lists nothing is rejected with SEID 0 and moves none.
@@ -90,8 +91,8 @@ module _ (book : Book) (ends : Ends) where
   message-of-none : (m : Message) → shifts m ≡ true → m .payload ≡ [] → answer book ends m ≡ stays ends (reject (0 ∷ 0x11 ∷ []))
   unfolding shifts answer
   message-of-none m shift lists-none =
-      let command = and-l (eqb (m .type) 0) (eqb (m .signal) 0x07 || eqb (m .signal) 0x09) shift in
-      let signal = and-r (eqb (m .type) 0) (eqb (m .signal) 0x07 || eqb (m .signal) 0x09) shift in
+      let command = and-l (eqb (m .mtype) 0) (eqb (m .signal) 0x07 || eqb (m .signal) 0x09) shift in
+      let signal = and-r (eqb (m .mtype) 0) (eqb (m .signal) 0x07 || eqb (m .signal) 0x09) shift in
       rw (command, lists-none) (none-by (m .signal) signal (whether (eqb (m .signal) 0x07)))
 
 -- ---- What a packet shows
@@ -114,7 +115,7 @@ areaIn (stands t) = []
 areaIn (counted n) = []
 areaIn (cutOff c) = c .area
 
-rejected : (m : Message) (r : Reply) → toldOf m r .type ≡ 3 → isAccept r ≡ false
+rejected : (m : Message) (r : Reply) → toldOf m r .mtype ≡ 3 → isAccept r ≡ false
 unfolding toldOf said isAccept
 rejected m silence e = refl
 rejected m generalReject e = refl
@@ -127,12 +128,13 @@ module _ (b : List ℕ) (size : ℕ) (saved p reply : List ℕ) (ok : bookNumber
   step : Stepped b saved (connectionIn (length (bookOf b)) saved) (packet size p reply)
   step = view-step b ok saved _ (record { right = right; shows = refl }) (packet size p reply)
 
-  taken : Told? (eqb (packetNumber size reply) 0) → packetCall b size saved p reply .told .type ≡ 3
+  taken : Told? (eqb (packetNumber size reply) 0) → packetCall b size saved p reply .told .mtype ≡ 3
       → eqb (packetNumber size reply) 0 ≡ true
   unfolding call answered says toldIn nothingSaid
   taken (passed t) e = t
   taken (failed f) e =
-      let silent : packetCall b size saved p reply .told .type ≡ 0 = ap (λ (a : Answer). toldIn a .type) (step .answer) ∙ rw f in
+      let silent : packetCall b size saved p reply .told .mtype ≡ 0 =
+            ap (λ (a : Answer). toldIn a .mtype) (step .answer) ∙ rw f in
       absurd (omega arith)
 
   module _ (t : eqb (packetNumber size reply) 0 ≡ true) where
@@ -153,14 +155,14 @@ module _ (b : List ℕ) (size : ℕ) (saved p reply : List ℕ) (ok : bookNumber
 
   -- A packet that completes a Start or a Suspend and is answered with a reject: what the saved octets show is exactly the
   -- endpoints listed before the failed one moved, and the reply names it.
-  pub packet-stopped : shifts m ≡ true → isEmpty (m .payload) ≡ false → packetCall b size saved p reply .told .type ≡ 3
+  pub packet-stopped : shifts m ≡ true → isEmpty (m .payload) ≡ false → packetCall b size saved p reply .told .mtype ≡ 3
       → StoppedSeen (bookOf b) (connectionIn (length (bookOf b)) saved .ends) reply m (packetCall b size saved p reply)
   unfolding toldOf said payloadOf
   packet-stopped shift lists e =
       let book = bookOf b in
       let ends = connectionIn (length book) saved .ends in
       let t = taken (whether (eqb (packetNumber size reply) 0)) e in
-      let refuses = rejected m (answer book ends m .reply) (sym (ap (λ (x : Told). x .type) (told-seen t)) ∙ e) in
+      let refuses = rejected m (answer book ends m .reply) (sym (ap (λ (x : Told). x .mtype) (told-seen t)) ∙ e) in
       let s = message-stops book ends m shift lists refuses in
       let named = s .named ∙ two-octets m _ _ shift in
       record {
@@ -179,7 +181,7 @@ module _ (b : List ℕ) (size : ℕ) (saved p reply : List ℕ) (ok : bookNumber
       }
 
   -- One that lists no endpoint is rejected with SEID 0 and 11h, and moves none.
-  pub packet-of-none : shifts m ≡ true → m .payload ≡ [] → packetCall b size saved p reply .told .type ≡ 3
+  pub packet-of-none : shifts m ≡ true → m .payload ≡ [] → packetCall b size saved p reply .told .mtype ≡ 3
       → RejectSeen reply m 0 0x11 (packetCall b size saved p reply)
         × (connectionIn (length (bookOf b)) (packetCall b size saved p reply .saved) .ends
            ≡ connectionIn (length (bookOf b)) saved .ends)
@@ -207,7 +209,7 @@ unfolding openArea
 open-area-right = always-legal traceBook _ trace-book-right trace-area-right _
 
 abbrev pub startOfBoth : Message
-startOfBoth = record { label = 8; type = 0; signal = 0x07; payload = 0x04 ∷ 0x14 ∷ [] }
+startOfBoth = record { label = 8; mtype = 0; signal = 0x07; payload = 0x04 ∷ 0x14 ∷ [] }
 
 pub start-stopped :
   StoppedSeen (bookOf traceBook) (connectionIn (length (bookOf traceBook)) openArea .ends) replyArea startOfBoth

@@ -37,7 +37,7 @@ alike (n ∷ book) (n′ ∷ book′) = alikeEntry n n′ && alike book book′
 
 unfoldable pub usesDelay : Message → Bool
 usesDelay m =
-    eqb (m .type) 0
+    eqb (m .mtype) 0
     && (eqb (m .signal) 0x0C || eqb (m .signal) 0x0D || (eqb (m .signal) 0x03 && has 8 (items (drop 2 (m .payload)))))
 
 unfoldable pub usesIn : Option Message → Bool
@@ -100,7 +100,7 @@ compared (shown s) = shown (record { number = s .number; part = written (upToCod
 compared (heard h) = heard h
 compared (stands t) = stands t
 compared (counted n) = counted n
-compared (cutOff c) = cutOff (record { number = c .number; length = c .length; area = take (c .length) (c .area) })
+compared (cutOff c) = cutOff (record { piece = c .piece; area = take (c .piece .length) (c .area) })
 
 -- Two bridges, each with its book, its saved area and its calls: alike are the answers and the connections that they end with,
 -- and no endpoint shows a reported delay.

@@ -31,7 +31,7 @@ partOf h m count (suc k) payload = take (m - h .further) (drop (m - h .start + k
 
 -- octet 0 with packet type 0 single, 1 start, 2 continue, 3 end
 unfoldable pub firstOctet : ℕ → Message → ℕ
-firstOctet packetType m = m .label * 16 + packetType * 4 + m .type
+firstOctet packetType m = m .label * 16 + packetType * 4 + m .mtype
 
 unfoldable pub header : Message → ℕ → ℕ → List ℕ
 header m count zero =

@@ -2,7 +2,7 @@
 -- 01, What the host is told).
 use Prim.Native.Nat.{ℕ, zero, suc}
 use mathlib.Core.List.{List, []}
-use mathlib.Core.Bool.{Bool, true, false, not, _&&_}
+use mathlib.Core.Bool.{true, false, not, _&&_}
 use mathlib.Core.Option.{Option, none, some}
 use lib.ListN.{length}
 use lib.Dec.{leb, ltb, eqb}
@@ -18,7 +18,10 @@ use Rattle.rules.specs.declared.Delay.{Delay}
 use Rattle.rules.specs.declared.Delay.the-variants.{Unreported, Reported}
 use Rattle.rules.specs.declared.Head.{Head}
 use Rattle.rules.specs.declared.Event.{Event}
+use Rattle.rules.specs.declared.Told.{Told}
+use Rattle.rules.specs.declared.Heard.{Heard}
 use Rattle.rules.specs.declared.Standing.{Standing}
+use Rattle.rules.specs.declared.Piece.{Piece}
 
 -- ---- check
 
@@ -58,20 +61,13 @@ freshCall book saved =
 
 -- ---- packet: book, 8, 9, 12
 
--- number, label, message type, signal and length of the payload; refusal and silence have 0 in the last four
-pub record Told : Type 0 where
-  pub number : ℕ
-  pub label : ℕ
-  pub type : ℕ
-  pub signal : ℕ
-  pub length : ℕ
-
+-- refusal and silence have 0 in label, message type, signal and length
 unfoldable pub nothingSaid : ℕ → Told
-nothingSaid number = record { number = number; label = 0; type = 0; signal = 0; length = 0 }
+nothingSaid number = record { number = number; label = 0; mtype = 0; signal = 0; length = 0 }
 
 unfoldable pub said : Message → ℕ → List ℕ → Told
-said m type payload =
-    record { number = 0; label = m .label; type = type; signal = m .signal; length = lib.ListN.length payload }
+said m mtype payload =
+    record { number = 0; label = m .label; mtype = mtype; signal = m .signal; length = lib.ListN.length payload }
 
 -- message types: 1 general reject, 2 accept, 3 reject
 unfoldable pub toldOf : Message → Reply → Told
@@ -150,12 +146,6 @@ settingsCall book saved s =
     let number = refusalOf book saved in
     if eqb number 0 then shown else record { number = number; part = [] }
 
--- the mark "reported", and tenths
-pub record Heard : Type 0 where
-  pub number : ℕ
-  pub reported : Bool
-  pub tenths : ℕ
-
 -- what an unreported delay shows
 abbrev pub unreportedTenths : ℕ
 unreportedTenths = 0
@@ -201,9 +191,9 @@ packetsCall size n = if sizeRight size && leb n longest then packetsFor avdtp si
 
 -- ---- cut: 8, 11, 9
 
+-- what the cutter tells, and the lent area at exit
 pub record Cut : Type 0 where
-  pub number : ℕ
-  pub length : ℕ
+  pub piece : Piece
   pub area : List ℕ
 
 unfoldable pub cutRefusal : ℕ → Message → ℕ → List ℕ → ℕ
@@ -212,7 +202,7 @@ cutRefusal size m k area =
     else if not (ltb k (countOf size m)) then 11
     else if ltb longest (lib.ListN.length (m .payload)) then 11
     else if not (ltb (m .label) 16) then 11
-    else if not (ltb (m .type) 4) then 11
+    else if not (ltb (m .mtype) 4) then 11
     else if not (ltb (m .signal) 64) then 11
     else if ltb (lib.ListN.length area) (lib.ListN.length (packetAt size m k)) then 9
     else 0
@@ -221,5 +211,6 @@ unfoldable pub cutCall : ℕ → Message → ℕ → List ℕ → Cut
 cutCall size m k area =
     let number = cutRefusal size m k area in
     let packet = packetAt size m k in
-    if eqb number 0 then record { number = 0; length = lib.ListN.length packet; area = front packet area }
-    else record { number = number; length = 0; area = area }
+    if eqb number 0
+    then record { piece = record { number = 0; length = lib.ListN.length packet }; area = front packet area }
+    else record { piece = record { number = number; length = 0 }; area = area }

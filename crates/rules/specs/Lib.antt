@@ -19,7 +19,7 @@
 --   limits of a gathering ....................................... Packets.gatheringRight
 --   our SEIDs and the far end's ................................. OurSeid, FarSeid (src/lib.rt)
 -- Packets and messages
---   headers as read, and as written ............................. Packets.labelIn, typeIn, signalIn, readAs; Cutting.header
+--   headers as read, and as written ............................. Packets.labelIn, mtypeIn, signalIn, readAs; Cutting.header
 --   gathering ................................................... Packets.gather (packetIn, taken, isNext, begin)
 --   a completed message that is not a command is silent ......... Commands.answer
 --   cutting at packet size m .................................... Cutting.packetsFor, partOf, packetAt, cutUp
@@ -60,8 +60,6 @@ pub mod Host
 pub mod Sessions
 pub mod Listed
 pub mod Views
-pub mod Wires
-pub mod Answers
 pub mod Alike
 pub mod Moves
 pub mod Computed

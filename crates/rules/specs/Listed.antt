@@ -29,7 +29,7 @@ numberIn (shown s) = s .number
 numberIn (heard h) = h .number
 numberIn (stands t) = t .number
 numberIn (counted n) = 0
-numberIn (cutOff c) = c .number
+numberIn (cutOff c) = c .piece .number
 
 unfoldable pub is12 : Answer → Bool
 is12 a = eqb (numberIn a) 12
@@ -64,7 +64,7 @@ refusedWith (settings s) n = shown (record { number = n; part = [] })
 refusedWith (delay s) n = heard (Host.heard n Unreported)
 refusedWith (status s) n = stands (Host.nowhere n)
 refusedWith (packets size length) n = counted 0
-refusedWith (cut size m k area) n = cutOff (record { number = n; length = 0; area = area })
+refusedWith (cut size m k area) n = cutOff (record { piece = record { number = n; length = 0 }; area = area })
 
 -- What a call can come to: its answer, and the saved area at exit.
 pub data Listed (saved : List ℕ) : Call → Done → Type 0 where
@@ -76,12 +76,12 @@ pub data Listed (saved : List ℕ) : Call → Done → Type 0 where
   silent : (size : ℕ) (p reply next : List ℕ)
     → Listed saved (packet size p reply) (record { answer = told (nothingSaid 0) reply; saved = next })
   -- a reply: label, message type, signal and length, and the payload at the front of the reply area
-  replied : (size : ℕ) (p reply next : List ℕ) (label type signal : ℕ) (payload : List ℕ)
-    → label < 16 → between 1 3 type ≡ true → signal < 64 → length payload ≤ 64
+  replied : (size : ℕ) (p reply next : List ℕ) (label mtype signal : ℕ) (payload : List ℕ)
+    → label < 16 → between 1 3 mtype ≡ true → signal < 64 → length payload ≤ 64
     → Listed saved (packet size p reply)
         (record {
            answer =
-             told (record { number = 0; label = label; type = type; signal = signal; length = lib.ListN.length payload })
+             told (record { number = 0; label = label; mtype = mtype; signal = signal; length = lib.ListN.length payload })
                (front payload reply);
            saved = next
          })
@@ -94,7 +94,8 @@ pub data Listed (saved : List ℕ) : Call → Done → Type 0 where
   cuts : (size : ℕ) (m : Message) (k : ℕ) (area written : List ℕ) → length written ≤ size
     → Listed saved (cut size m k area)
         (record {
-           answer = cutOff (record { number = 0; length = lib.ListN.length written; area = front written area });
+           answer =
+             cutOff (record { piece = record { number = 0; length = lib.ListN.length written }; area = front written area });
            saved = saved
          })
 

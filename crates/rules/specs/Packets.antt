@@ -17,7 +17,7 @@ longest = 512
 -- A message: label, message type (0 command, 1 general reject, 2 accept, 3 reject), signal, payload.
 pub record Message : Type 0 where
   pub label : ℕ
-  pub type : ℕ
+  pub mtype : ℕ
   pub signal : ℕ
   pub payload : List ℕ
 
@@ -27,8 +27,8 @@ pub record Message : Type 0 where
 unfoldable pub labelIn : ℕ → ℕ
 labelIn h = h / 16 % 16
 
-unfoldable pub typeIn : ℕ → ℕ
-typeIn h = h % 4
+unfoldable pub mtypeIn : ℕ → ℕ
+mtypeIn h = h % 4
 
 -- the signal octet: the low 6 bits
 unfoldable pub signalIn : ℕ → ℕ
@@ -43,28 +43,28 @@ pub data Packet : Type 0 where
   further : Bool → ℕ → ℕ → List ℕ → Packet
   wrong : Packet
 
-pub data Kind : Type 0 where
-  aSingle aStart aContinue anEnd : Kind
+pub data PacketType : Type 0 where
+  aSingle aStart aContinue anEnd : PacketType
 
-unfoldable pub kindIn : ℕ → Kind
-kindIn h = getD (aSingle ∷ aStart ∷ aContinue ∷ anEnd ∷ []) (h / 4 % 4) aSingle
+unfoldable pub packetTypeIn : ℕ → PacketType
+packetTypeIn h = getD (aSingle ∷ aStart ∷ aContinue ∷ anEnd ∷ []) (h / 4 % 4) aSingle
 
 unfoldable pub messageFrom : ℕ → ℕ → List ℕ → Message
-messageFrom h s payload = record { label = labelIn h; type = typeIn h; signal = signalIn s; payload = payload }
+messageFrom h s payload = record { label = labelIn h; mtype = mtypeIn h; signal = signalIn s; payload = payload }
 
 -- a single below 2 octets and a start below 3 are wrong
-unfoldable pub readAs : Kind → ℕ → List ℕ → Packet
+unfoldable pub readAs : PacketType → ℕ → List ℕ → Packet
 readAs aSingle h [] = wrong
 readAs aSingle h (s ∷ p) = single (messageFrom h s p)
 readAs aStart h [] = wrong
 readAs aStart h (n ∷ []) = wrong
 readAs aStart h (n ∷ s ∷ p) = start n (messageFrom h s p)
-readAs aContinue h p = further false (labelIn h) (typeIn h) p
-readAs anEnd h p = further true (labelIn h) (typeIn h) p
+readAs aContinue h p = further false (labelIn h) (mtypeIn h) p
+readAs anEnd h p = further true (labelIn h) (mtypeIn h) p
 
 unfoldable pub read : List ℕ → Packet
 read [] = wrong
-read (h ∷ p) = readAs (kindIn h) h p
+read (h ∷ p) = readAs (packetTypeIn h) h p
 
 -- any packet longer than the packet size is wrong
 unfoldable pub packetIn : ℕ → List ℕ → Packet
@@ -94,7 +94,7 @@ gathers g = record { gathering = some g; done = none }
 
 -- the message with a further part of its payload
 unfoldable pub extended : Message → List ℕ → Message
-extended m p = record { label = m .label; type = m .type; signal = m .signal; payload = m .payload ++ p }
+extended m p = record { label = m .label; mtype = m .mtype; signal = m .signal; payload = m .payload ++ p }
 
 unfoldable pub begin : ℕ → Message → Step
 begin n m =
@@ -105,8 +105,8 @@ begin n m =
 -- The next right packet: its label and message type, a continue where more than one packet is still owed and an end where one
 -- is, and no payload above the limit.
 unfoldable pub isNext : Gathering → Bool → ℕ → ℕ → List ℕ → Bool
-isNext g last label type p =
-    eqb label (g .message .label) && eqb type (g .message .type)
+isNext g last label mtype p =
+    eqb label (g .message .label) && eqb mtype (g .message .mtype)
     && (if last then eqb (suc (g .parts)) (g .count) else ltb (suc (g .parts)) (g .count))
     && leb (length (g .message .payload) + length p) longest
 
@@ -116,14 +116,14 @@ joined g false p =
     gathers (record { message = extended (g .message) p; count = g .count; parts = suc (g .parts) })
 
 unfoldable pub goesOn : Option Gathering → Bool → ℕ → ℕ → List ℕ → Step
-goesOn none last label type p = ended
-goesOn (some g) last label type p = if isNext g last label type p then joined g last p else ended
+goesOn none last label mtype p = ended
+goesOn (some g) last label mtype p = if isNext g last label mtype p then joined g last p else ended
 
 -- Every packet that is not the next right one ends any gathering; a good single or start is then taken as such.
 unfoldable pub taken : Option Gathering → Packet → Step
 taken g (single m) = if leb (length (m .payload)) longest then completes m else ended
 taken g (start n m) = begin n m
-taken g (further last label type p) = goesOn g last label type p
+taken g (further last label mtype p) = goesOn g last label mtype p
 taken g wrong = ended
 
 unfoldable pub gather : ℕ → Option Gathering → List ℕ → Step
@@ -133,4 +133,4 @@ gather size g p = taken g (packetIn size p)
 unfoldable pub gatheringRight : Gathering → Bool
 gatheringRight g =
     leb (length (g .message .payload)) longest && between 2 255 (g .count) && leb 1 (g .parts) && ltb (g .parts) (g .count)
-    && ltb (g .message .label) 16 && ltb (g .message .type) 4 && ltb (g .message .signal) 64
+    && ltb (g .message .label) 16 && ltb (g .message .mtype) 4 && ltb (g .message .signal) 64

@@ -54,6 +54,62 @@ headRoom = 16
 abbrev pub configRoom : ℕ
 configRoom = 64
 
+-- places in a head
+abbrev pub seidPlace : ℕ
+seidPlace = 0
+
+abbrev pub statePlace : ℕ
+statePlace = 1
+
+abbrev pub channelPlace : ℕ
+channelPlace = 2
+
+abbrev pub farPlace : ℕ
+farPlace = 3
+
+abbrev pub delayMarkPlace : ℕ
+delayMarkPlace = 4
+
+abbrev pub delayHighPlace : ℕ
+delayHighPlace = 5
+
+abbrev pub delayLowPlace : ℕ
+delayLowPlace = 6
+
+abbrev pub configLengthPlace : ℕ
+configLengthPlace = 7
+
+abbrev pub unusedPlace : ℕ
+unusedPlace = 8
+
+-- places in the link part, where the gathering lies
+abbrev pub markPlace : ℕ
+markPlace = 0
+
+abbrev pub labelPlace : ℕ
+labelPlace = 1
+
+abbrev pub mtypePlace : ℕ
+mtypePlace = 2
+
+abbrev pub signalPlace : ℕ
+signalPlace = 3
+
+abbrev pub packetsPlace : ℕ
+packetsPlace = 4
+
+abbrev pub partsPlace : ℕ
+partsPlace = 5
+
+abbrev pub lengthHighPlace : ℕ
+lengthHighPlace = 6
+
+abbrev pub lengthLowPlace : ℕ
+lengthLowPlace = 7
+
+abbrev pub payloadPlace : ℕ
+payloadPlace = 8
+
 -- the octets that a connection over n endpoints takes
 unfoldable pub areaFor : ℕ → ℕ
 areaFor n = recordsPlace + n * recordRoom
@@ -107,15 +163,15 @@ pairIn high low = high * 256 + low
 unfoldable pub headIn : List ℕ → Head
 headIn r =
     record {
-      seid = record { 0 = getD r 0 0 };
-      state = stateIn (getD r 1 0);
-      channel = channelIn (getD r 2 0);
-      far = record { 0 = getD r 3 0 };
-      delay = delayIn (getD r 4 0) (pairIn (getD r 5 0) (getD r 6 0))
+      seid = record { 0 = getD r seidPlace 0 };
+      state = stateIn (getD r statePlace 0);
+      channel = channelIn (getD r channelPlace 0);
+      far = record { 0 = getD r farPlace 0 };
+      delay = delayIn (getD r delayMarkPlace 0) (pairIn (getD r delayHighPlace 0) (getD r delayLowPlace 0))
     }
 
 unfoldable pub configIn : List ℕ → List ℕ
-configIn r = take (getD r 7 0) (drop headRoom r)
+configIn r = take (getD r configLengthPlace 0) (drop headRoom r)
 
 unfoldable pub endpointIn : List ℕ → Endpoint
 endpointIn r = record { head = headIn r; config = configIn r }
@@ -127,9 +183,10 @@ unused = 0 ∷ 0 ∷ 0 ∷ 0 ∷ 0 ∷ 0 ∷ 0 ∷ 0 ∷ []
 -- octets that a stored record can have
 unfoldable pub recordRight : List ℕ → Bool
 recordRight r =
-    leb (getD r 1 0) 5 && leb (getD r 2 0) 2
-    && (eqb (getD r 4 0) 1 || (eqb (getD r 4 0) 0 && eqb (getD r 5 0) 0 && eqb (getD r 6 0) 0))
-    && leb (getD r 7 0) configRoom && sameOctets (take 8 (drop 8 r)) unused
+    leb (getD r statePlace 0) 5 && leb (getD r channelPlace 0) 2
+    && (eqb (getD r delayMarkPlace 0) 1
+      || (eqb (getD r delayMarkPlace 0) 0 && eqb (getD r delayHighPlace 0) 0 && eqb (getD r delayLowPlace 0) 0))
+    && leb (getD r configLengthPlace 0) configRoom && sameOctets (take 8 (drop unusedPlace r)) unused
 
 -- the octets of a head whose endpoint has a configuration of n octets, those with a use in front
 abbrev pub usedOctets : Head → ℕ → List ℕ
@@ -159,29 +216,34 @@ storeEnds (e ∷ ends) l = storeEnd e (take recordRoom l) ++ storeEnds ends (dro
 
 -- ---- The gathering
 
+-- how many octets are gathered
+abbrev pub payloadLengthIn : List ℕ → ℕ
+payloadLengthIn l = pairIn (getD l lengthHighPlace 0) (getD l lengthLowPlace 0)
+
 unfoldable pub gatheringAt : List ℕ → Gathering
 gatheringAt l =
     record {
       message =
         record {
-          label = getD l 1 0;
-          type = getD l 2 0;
-          signal = getD l 3 0;
-          payload = take (pairIn (getD l 6 0) (getD l 7 0)) (drop 8 l)
+          label = getD l labelPlace 0;
+          mtype = getD l mtypePlace 0;
+          signal = getD l signalPlace 0;
+          payload = take (payloadLengthIn l) (drop payloadPlace l)
         };
-      count = getD l 4 0;
-      parts = getD l 5 0
+      count = getD l packetsPlace 0;
+      parts = getD l partsPlace 0
     }
 
 unfoldable pub gatheringIn : List ℕ → Option Gathering
-gatheringIn l = if eqb (getD l 0 0) 0 then none else some (gatheringAt l)
+gatheringIn l = if eqb (getD l markPlace 0) 0 then none else some (gatheringAt l)
 
 unfoldable pub gatheringOctetsRight : List ℕ → Bool
-gatheringOctetsRight l = eqb (getD l 0 0) 0 || (eqb (getD l 0 0) 1 && leb (pairIn (getD l 6 0) (getD l 7 0)) longest)
+gatheringOctetsRight l =
+    eqb (getD l markPlace 0) 0 || (eqb (getD l markPlace 0) 1 && leb (payloadLengthIn l) longest)
 
 unfoldable pub gatheringHead : Gathering → List ℕ
 gatheringHead g =
-    1 ∷ g .message .label ∷ g .message .type ∷ g .message .signal ∷ g .count ∷ g .parts
+    1 ∷ g .message .label ∷ g .message .mtype ∷ g .message .signal ∷ g .count ∷ g .parts
     ∷ length (g .message .payload) / 256 ∷ length (g .message .payload) % 256 ∷ []
 
 unfoldable pub storeGathering : Option Gathering → List ℕ → List ℕ

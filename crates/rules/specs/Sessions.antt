@@ -2,11 +2,13 @@
 use Prim.Native.Nat.{ℕ}
 use mathlib.Core.List.{List, [], _∷_}
 use Rattle.rules.specs.Packets.{Message}
-use Rattle.rules.specs.Host.{checkCall, Kept, freshCall, Told, Answered, packetCall, eventCall, Shown, settingsCall}
-use Rattle.rules.specs.Host.{Heard, delayCall, statusCall, packetsCall, Cut, cutCall}
+use Rattle.rules.specs.Host.{checkCall, Kept, freshCall, Answered, packetCall, eventCall, Shown, settingsCall}
+use Rattle.rules.specs.Host.{delayCall, statusCall, packetsCall, Cut, cutCall}
 use Rattle.rules.specs.declared.OurSeid.{OurSeid}
 use Rattle.rules.specs.declared.Event.{Event}
 use Rattle.rules.specs.declared.Standing.{Standing}
+use Rattle.rules.specs.declared.Heard.{Heard}
+use Rattle.rules.specs.declared.Told.{Told}
 
 pub data Call : Type 0 where
   check : Call

@@ -37,12 +37,12 @@ pub data Row : Type 0 where
 unfoldable pub outOf : ℕ → Answered → Out
 outOf size a =
     if not (eqb (a .told .number) 0) then refused (a .told .number)
-    else if eqb (a .told .type) 0 then silence
+    else if eqb (a .told .mtype) 0 then silence
     else sent
       (cutUp size
          (record {
             label = a .told .label;
-            type = a .told .type;
+            mtype = a .told .mtype;
             signal = a .told .signal;
             payload = take (a .told .length) (a .reply)
           }))
@@ -123,7 +123,7 @@ traceTable =
 
 unfoldable pub cutLengths : ℕ → ℕ → List ℕ
 cutLengths size n =
-    map length (cutUp size (record { label = 1; type = 2; signal = 12; payload = replicate n 0xAB }))
+    map length (cutUp size (record { label = 1; mtype = 2; signal = 12; payload = replicate n 0xAB }))
 
 -- ---- The lecture hall: a delay of 3,500 tenths is reported, the endpoint is aborted, its channel goes down, and an old headset
 -- that never reports is configured on the same endpoint.

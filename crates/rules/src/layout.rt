@@ -19,3 +19,14 @@ pub const DELAY_HIGH: usize = 5;
 pub const DELAY_LOW: usize = 6;
 pub const CONFIG_LENGTH: usize = 7;
 pub const UNUSED: usize = 8;
+
+// Places in the link part, where the gathering lies.
+pub const MARK: usize = 0;
+pub const LABEL: usize = 1;
+pub const MTYPE: usize = 2;
+pub const SIGNAL: usize = 3;
+pub const PACKETS: usize = 4;
+pub const PARTS: usize = 5;
+pub const LENGTH_HIGH: usize = 6;
+pub const LENGTH_LOW: usize = 7;
+pub const PAYLOAD: usize = 8;

@@ -1,4 +1,5 @@
-// The words that the definitions and the code share. There is no function here: the meaning stands in specs/.
+// The words that the definitions and the code share. There is no function here: the meaning stands in specs/. A message type is
+// `mtype`, as the language keeps `type` for itself. What the host is told is laid out as C lays it out.
 pub mod layout;
 
 // A SEID of ours, and one of the far end's: counted separately, and neither is accepted where the other belongs.
@@ -75,39 +76,26 @@ pub struct Fault {
     pub code: u8,
 }
 
-// What a packet leads to: no gathering and no message, a message in this one packet, a gathering that begins or goes on, or a
-// message of which this packet is the last part.
-pub enum Next {
-    Ended,
-    Single { label: u8, kind: u8, signal: u8 },
-    Begun,
-    Grown,
-    Complete { label: u8, kind: u8, signal: u8 },
-}
-
 // What the cutter tells: a number, and the length of the packet that was written.
+#[repr(C)]
 pub struct Piece {
     pub number: u8,
     pub length: usize,
 }
 
-// What is said to the far end: the message type (0 silence, 1 general reject, 2 accept, 3 reject) and the length of the payload.
-pub struct Said {
-    pub kind: u8,
-    pub length: usize,
-}
-
 // What the host is told of a packet: a number, and of the reply its label, message type (0 silence, 1 general reject, 2 accept,
 // 3 reject), signal and length.
+#[repr(C)]
 pub struct Told {
     pub number: u8,
     pub label: u8,
-    pub kind: u8,
+    pub mtype: u8,
     pub signal: u8,
     pub length: usize,
 }
 
 // What the host is told of a delay: a number, whether one was reported, and tenths of a millisecond.
+#[repr(C)]
 pub struct Heard {
     pub number: u8,
     pub reported: bool,

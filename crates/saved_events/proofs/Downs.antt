@@ -32,7 +32,8 @@ module _ (s : OurSeid) (b l : List ℕ) (i kind from size : ℕ) (right : bookNu
   pub down-room : (i + 1) * recordRoom ≤ length l
   down-room = has-room (length (bookOf b)) i l l inside held refl
 
-  channel : (h : Head) → h ≡ headIn (recordAt i l) → isUp (endAt (endsIn (length (bookOf b)) l) i .head .channel) ≡ isUp (h .channel)
+  channel : (h : Head) → h ≡ headIn (recordAt i l)
+    → isUp (endAt (endsIn (length (bookOf b)) l) i .head .channel) ≡ isUp (h .channel)
   channel h got =
       ap isUp (channel-shown (length (bookOf b)) i l inside) ∙ sym (ap (λ (x : Head). isUp (x .channel)) got)
 

@@ -23,7 +23,8 @@ upped n l =
 unfoldable pub downedAt : Found → Ends → List ℕ → Turned
 downedAt unknown ends l = record { number = 10; records = l }
 downedAt (known i n) ends l =
-    if isUp (endAt ends i .head .channel) then record { number = 0; records = storeEnds (set ends i (forgotten (endAt ends i))) l }
+    if isUp (endAt ends i .head .channel)
+    then record { number = 0; records = storeEnds (set ends i (forgotten (endAt ends i))) l }
     else record { number = 10; records = l }
 
 unfoldable pub downed : OurSeid → Book → List ℕ → Turned

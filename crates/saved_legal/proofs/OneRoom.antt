@@ -10,8 +10,8 @@ use borrow.Author.Tests.{le-leb, lt-leb, ne-eqb}
 use Rattle.rules.specs.Octets.{between}
 use Rattle.rules.specs.Packets.{longest, gatheringRight}
 use Rattle.rules.specs.Endpoints.{legalGathering}
-use Rattle.rules.specs.Saved.{gatheringRoom, gatheringAt, gatheringIn, gatheringOctetsRight}
-use Rattle.packets_gather.proofs.Rooms.{gatheredIn, payload-length}
+use Rattle.rules.specs.Saved.{gatheringRoom, gatheringAt, gatheringIn, gatheringOctetsRight, payloadLengthIn}
+use Rattle.packets_gather.proofs.Rooms.{payload-length}
 use Rattle.saved_legal.specs.Legal.{roomLegal}
 
 and-true : (a : Bool) → a && true ≡ a
@@ -28,15 +28,15 @@ module _ (room : List ℕ) where
   mark-wrong f g = rw (ne-eqb (getD room 0 0) 0 f, ne-eqb (getD room 0 0) 1 g)
 
   module _ (mark : getD room 0 0 ≡ 1) where
-    pub too-long : 512 < gatheredIn room → false ≡ roomLegal room
+    pub too-long : 512 < payloadLengthIn room → false ≡ roomLegal room
     unfolding roomLegal gatheringOctetsRight longest
-    too-long h = rw (mark, lt-leb (gatheredIn room) 512 h)
+    too-long h = rw (mark, lt-leb (payloadLengthIn room) 512 h)
 
-    pub head-legal : length room ≡ gatheringRoom → gatheredIn room ≤ 512 → getD room 4 0 < 256
+    pub head-legal : length room ≡ gatheringRoom → payloadLengthIn room ≤ 512 → getD room 4 0 < 256
       → leb 2 (getD room 4 0) && leb 1 (getD room 5 0) && ltb (getD room 5 0) (getD room 4 0) && ltb (getD room 1 0) 16
         && ltb (getD room 2 0) 4 && ltb (getD room 3 0) 64
         ≡ roomLegal room
     unfolding roomLegal gatheringOctetsRight gatheringIn legalGathering gatheringRight gatheringAt longest between
     head-legal long fits octet =
-        rw (mark, payload-length room long fits, le-leb (gatheredIn room) 512 fits, le-leb (getD room 4 0) 255 (omega arith),
+        rw (mark, payload-length room long fits, le-leb (payloadLengthIn room) 512 fits, le-leb (getD room 4 0) 255 (omega arith),
           and-true (leb 2 (getD room 4 0)))

@@ -9,8 +9,9 @@ use Rattle.rules.specs.Octets.{if_then_else_}
 use Rattle.rules.specs.Elements.{items, has, couldStore}
 use Rattle.rules.specs.Book.{Entry, Book, isSource}
 use Rattle.rules.specs.Endpoints.{isReported, farRight, isAwaited, legalEnd, legalEnds, awaiting, legalGathering}
-use Rattle.rules.specs.Saved.{configRoom, channelIn, endpointIn, recordRight, endsIn, recordsRight, gatheringIn}
-use Rattle.rules.specs.Saved.{gatheringOctetsRight}
+use Rattle.rules.specs.Saved.{configRoom, channelIn, endpointIn, recordRight, endsIn, recordsRight, gatheringIn, statePlace}
+use Rattle.rules.specs.Saved.{gatheringOctetsRight, channelPlace, delayMarkPlace, delayHighPlace, delayLowPlace}
+use Rattle.rules.specs.Saved.{configLengthPlace}
 use Rattle.rules.specs.declared.FarSeid.{FarSeid}
 use Rattle.rules.specs.declared.Delay.{Delay}
 
@@ -26,9 +27,10 @@ awaitsIn o = if isAwaited (channelIn o) then 1 else 0
 -- the octets of a head that have a use
 unfoldable pub usedRight : List ℕ → Bool
 usedRight r =
-    leb (getD r 1 0) 5 && leb (getD r 2 0) 2
-    && (eqb (getD r 4 0) 1 || (eqb (getD r 4 0) 0 && eqb (getD r 5 0) 0 && eqb (getD r 6 0) 0))
-    && leb (getD r 7 0) configRoom
+    leb (getD r statePlace 0) 5 && leb (getD r channelPlace 0) 2
+    && (eqb (getD r delayMarkPlace 0) 1
+      || (eqb (getD r delayMarkPlace 0) 0 && eqb (getD r delayHighPlace 0) 0 && eqb (getD r delayLowPlace 0) 0))
+    && leb (getD r configLengthPlace 0) configRoom
 
 -- four of those that have none
 abbrev pub fourZero : ℕ → ℕ → ℕ → ℕ → Bool

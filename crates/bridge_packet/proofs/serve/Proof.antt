@@ -32,7 +32,7 @@ returns : tie.Need-returns
 returns c =
     let called = c .before .before .before .before .before in
     let args = called .before .before .before .before .before .before .before .args in
-    as-served (args .book .now) (args .saved .now) (args .payload .now) (args .reply .now) (args .label) (args .kind)
+    as-served (args .book .now) (args .saved .now) (args .payload .now) (args .reply .now) (args .label) (args .mtype)
         (args .signal) _ _ _ _
       (called .answer .ensures) (c .tell .ensures)
 

@@ -98,7 +98,7 @@ returns c =
     served-by .serve .ensures
     ∙ ap
         (λ (x : List ℕ).
-          served (args .book .now) (record { label = args .label; type = args .kind; signal = args .signal; payload = x })
+          served (args .book .now) (record { label = args .label; mtype = args .mtype; signal = args .signal; payload = x })
             (args .saved .now) (args .reply .now))
         (lent-at called)
 

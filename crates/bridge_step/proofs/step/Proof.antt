@@ -1,4 +1,4 @@
--- `step` meets its contract: each arm is the call of its kind.
+-- `step` meets its contract: each arm is the call of its mtype.
 use borrow.Author.Needs.{needs}
 use Rattle.bridge_step.proofs.Made.{checks, freshens, takes, happens, shows, hears, stands, counts, cuts}
 use Rattle.bridge_step.proofs.step.Statement.{statement}

@@ -6,8 +6,8 @@ use borrow.Author.Needs.{needs}
 use Rattle.rules.specs.Octets.{front}
 use Rattle.rules.specs.Commands.{Reply, rejects}
 use Rattle.rules.specs.Host.{payloadOf}
-use Rattle.rules.specs.Answers.{saidOf}
-use Rattle.rules.specs.declared.Said.{Said}
+use Rattle.commands_reply.specs.Answers.{saidOf}
+use Rattle.commands_reply.specs.declared.Said.{Said}
 use Rattle.commands_reply.proofs.Refusing.{rejects-two, rejects-one}
 use Rattle.commands_reply.proofs.refused.Statement.{statement}
 use Rattle.commands_reply.proofs.refused.Tie as tie

@@ -1,7 +1,7 @@
 -- `rejected` meets its contract: the octets are written at the front.
 use borrow.Author.Needs.{needs}
 use mathlib.Core.Path.{refl}
-use Rattle.rules.specs.Answers.{saidOf}
+use Rattle.commands_reply.specs.Answers.{saidOf}
 use Rattle.commands_reply.proofs.Fronts.{front-one}
 use Rattle.commands_reply.proofs.rejected.Statement.{statement}
 use Rattle.commands_reply.proofs.rejected.Tie as tie

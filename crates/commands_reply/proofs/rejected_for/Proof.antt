@@ -1,7 +1,7 @@
 -- `rejected_for` meets its contract: the octets are written at the front.
 use borrow.Author.Needs.{needs}
 use mathlib.Core.Path.{refl}
-use Rattle.rules.specs.Answers.{saidOf}
+use Rattle.commands_reply.specs.Answers.{saidOf}
 use Rattle.commands_reply.proofs.Fronts.{front-two}
 use Rattle.commands_reply.proofs.rejected_for.Statement.{statement}
 use Rattle.commands_reply.proofs.rejected_for.Tie as tie

@@ -7,8 +7,7 @@ use lib.ListN.{length}
 use lib.Dec.{eqb}
 use borrow.Author.Needs.{needs}
 use Rattle.rules.specs.Packets.{Message, sizeRight}
-use Rattle.rules.specs.Host.{cutRefusal, cutCall}
-use Rattle.rules.specs.Wires.{cutBy}
+use Rattle.rules.specs.Host.{cutRefusal, cutCall, Cut}
 use Rattle.rules.specs.declared.Piece.{Piece}
 use Rattle.rules.proofs.ReadsBack.{HasRoom, count-small}
 use Rattle.octets.proofs.Patches.{part-length}
@@ -23,11 +22,12 @@ use Rattle.packets_cut.proofs.cut.Tie as tie
 
 abbrev message : tie.Start → Message
 message s =
-    record { label = s .args .label; type = s .args .kind; signal = s .args .signal; payload = s .args .payload .now }
+    record { label = s .args .label; mtype = s .args .mtype; signal = s .args .signal; payload = s .args .payload .now }
 
 tells : (s : tie.Start) (p : Piece) (n : ℕ) → p ≡ record { number = n; length = 0 } → eqb n 0 ≡ false
   → cutRefusal (s .args .size) (message s) (s .args .index) (s .args .area .now) ≡ n
-  → cutBy p (s .args .area .now) ≡ cutCall (s .args .size) (message s) (s .args .index) (s .args .area .now)
+  → _≡_ {A = Cut} (record { piece = p; area = s .args .area .now })
+      (cutCall (s .args .size) (message s) (s .args .index) (s .args .area .now))
 tells s = refuses (s .args .size) (message s) (s .args .index) (s .args .area .now)
 
 tells-size : (s : tie.Start) → sizeRight (s .args .size) ≡ false

@@ -18,19 +18,19 @@ use Rattle.packets_echo.proofs.echo.Statement.{statement}
 use Rattle.packets_echo.proofs.echo.Tie as tie
 
 abbrev message-of : ℕ → ℕ → ℕ → List ℕ → Message
-message-of label kind signal payload = record { label = label; type = kind; signal = signal; payload = payload }
+message-of label mtype signal payload = record { label = label; mtype = mtype; signal = signal; payload = payload }
 
 abbrev Inv-loop : tie.InvT-loop
-Inv-loop size label kind signal payload room₀ area₀ message₀ total index₀ room area message index =
-    Owed size (message-of label kind signal payload) index room × (length area ≡ length area₀) × (message ≡ message₀)
+Inv-loop size label mtype signal payload room₀ area₀ message₀ total index₀ room area message index =
+    Owed size (message-of label mtype signal payload) index room × (length area ≡ length area₀) × (message ≡ message₀)
 
 abbrev μ-loop : tie.MeasureT-loop
-μ-loop size label kind signal payload room₀ area₀ message₀ total index₀ room area message index = total - index
+μ-loop size label mtype signal payload room₀ area₀ message₀ total index₀ room area message index = total - index
 
 -- ---- What was asked, and the count
 
 abbrev message : tie.Start Inv-loop μ-loop → Message
-message s = message-of (s .args .label) (s .args .kind) (s .args .signal) (s .args .payload .now)
+message s = message-of (s .args .label) (s .args .mtype) (s .args .signal) (s .args .payload .now)
 
 whole-at : (s : tie.Start Inv-loop μ-loop) → Whole (s .args .size) (message s)
 whole-at s =

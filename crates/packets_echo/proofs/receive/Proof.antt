@@ -10,9 +10,9 @@ use borrow.Author.Needs.{needs}
 use Rattle.rules.specs.Octets.{front}
 use Rattle.rules.specs.Packets.{Message, Step, gather}
 use Rattle.rules.specs.Saved.{gatheringIn, gatheringAt}
-use Rattle.rules.specs.Wires.{nextOf}
-use Rattle.rules.specs.declared.Next.{Next}
-use Rattle.rules.specs.declared.Next.the-variants.{Single, Complete}
+use Rattle.packets_gather.specs.Nexts.{nextOf}
+use Rattle.packets_gather.specs.declared.nexts.Next.{Next}
+use Rattle.packets_gather.specs.declared.nexts.Next.the-variants.{Single, Complete}
 use Rattle.octets.specs.Patch.{patch, part}
 use Rattle.octets.proofs.Patches.{front-patch}
 use Rattle.packets_gather.specs.Rooms.{RoomRight}
@@ -32,12 +32,12 @@ unfolding part
 single-part p q e = e ∙ behind 2 p
 
 module _ (l t n : ℕ) (p : List ℕ) (done : Option Message) where
-  single-echoed : done ≡ some (record { label = l; type = t; signal = n; payload = drop 2 p })
-    → record { done = true; label = l; kind = t; signal = n; length = length p - 2 } ≡ echoedOf done
+  single-echoed : done ≡ some (record { label = l; mtype = t; signal = n; payload = drop 2 p })
+    → record { done = true; label = l; mtype = t; signal = n; length = length p - 2 } ≡ echoedOf done
   unfolding echoedOf
   single-echoed e = rw (e, length-drop)
 
-  single-written : (q a message : List ℕ) → done ≡ some (record { label = l; type = t; signal = n; payload = drop 2 p })
+  single-written : (q a message : List ℕ) → done ≡ some (record { label = l; mtype = t; signal = n; payload = drop 2 p })
     → q ≡ part 2 (length p - 2) p → a ≡ patch 0 q message → a ≡ payloadOn done message
   unfolding payloadOn
   single-written q a message e f g =
@@ -45,7 +45,7 @@ module _ (l t n : ℕ) (p : List ℕ) (done : Option Message) where
 
   several-echoed : (room : List ℕ) (r : ℕ) → Assembled l t n p room done
     → r ≡ length (gatheringAt room .message .payload ++ drop 1 p)
-    → record { done = true; label = l; kind = t; signal = n; length = r } ≡ echoedOf done
+    → record { done = true; label = l; mtype = t; signal = n; length = r } ≡ echoedOf done
   unfolding echoedOf
   several-echoed room r a e = rw (a .message, e)
 
@@ -58,7 +58,7 @@ assembled-left : (size : ℕ) (room left p : List ℕ) → RoomRight room → le
   → nextOf size (gatheringIn room) p ≡ Complete l t n → Assembled l t n p left (gather size (gatheringIn room) p .done)
 assembled-left size room left p right e l t n f = rw e (assembled size room p right l t n f)
 
-none-echoed : (e : Echoed) (done : Option Message) → e ≡ record { done = false; label = 0; kind = 0; signal = 0; length = 0 }
+none-echoed : (e : Echoed) (done : Option Message) → e ≡ record { done = false; label = 0; mtype = 0; signal = 0; length = 0 }
   → done ≡ none → e ≡ echoedOf done
 unfolding echoedOf
 none-echoed e done f g = rw g f

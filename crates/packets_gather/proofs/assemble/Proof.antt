@@ -6,16 +6,16 @@ use mathlib.Core.Path.{_≡_, sym, ap, ap₂, _∙_}
 use mathlib.Core.List.{List, _++_}
 use lib.ListN.{length, drop, length-append, length-drop}
 use Rattle.rules.specs.Octets.{front}
-use Rattle.rules.specs.Saved.{gatheringAt}
+use Rattle.rules.specs.Saved.{gatheringAt, payloadLengthIn}
 use Rattle.octets.specs.Patch.{patch, part}
 use Rattle.octets.proofs.Patches.{front-patch, front-more}
 use Rattle.packets_gather.proofs.Headers.{behind, length-behind}
-use Rattle.packets_gather.proofs.Rooms.{gatheredIn, payload-length}
+use Rattle.packets_gather.proofs.Rooms.{payload-length}
 use Rattle.packets_gather.proofs.assemble.Statement.{statement}
 use Rattle.packets_gather.proofs.assemble.Tie as tie
 
 -- the part of the room that is lent is the payload
-lent : (room x : List ℕ) (n : ℕ) → n ≡ gatheredIn room → x ≡ part 8 n room → x ≡ gatheringAt room .message .payload
+lent : (room x : List ℕ) (n : ℕ) → n ≡ payloadLengthIn room → x ≡ part 8 n room → x ≡ gatheringAt room .message .payload
 unfolding part gatheringAt
 lent room x n e f = f ∙ ap (λ (k : ℕ). part 8 k room) e
 

@@ -11,19 +11,19 @@ use mathlib.Core.Bool.{Bool, true, false, _&&_, and-true, and-false}
 use lib.Dec.{leb, ltb, eqb}
 use lib.ListN.{length, drop, getD, length-drop}
 use Rattle.rules.specs.Octets.{if_then_else_}
-use Rattle.rules.specs.Packets.{labelIn, typeIn, isNext, longest}
-use Rattle.rules.specs.Saved.{gatheringAt, gatheringIn}
-use Rattle.rules.specs.Wires.{nextFurther}
-use Rattle.rules.specs.declared.Next.{Next}
-use Rattle.rules.specs.declared.Next.the-variants.{Ended, Grown, Complete}
+use Rattle.rules.specs.Packets.{labelIn, mtypeIn, isNext, longest}
+use Rattle.rules.specs.Saved.{gatheringAt, gatheringIn, payloadLengthIn}
+use Rattle.packets_gather.specs.Nexts.{nextFurther}
+use Rattle.packets_gather.specs.declared.nexts.Next.{Next}
+use Rattle.packets_gather.specs.declared.nexts.Next.the-variants.{Ended, Grown, Complete}
 use Rattle.packets_gather.specs.Rooms.{RoomRight}
 use Rattle.packets_gather.proofs.Headers.{label-in}
-use Rattle.packets_gather.proofs.Rooms.{gatheredIn, marked, gathering-there, payload-length}
+use Rattle.packets_gather.proofs.Rooms.{marked, gathering-there, payload-length}
 use Rattle.packets_gather.proofs.further.Statement.{statement}
 use Rattle.packets_gather.proofs.further.Tie as tie
 
 abbrev answer : List ℕ → List ℕ → Bool → Next
-answer room p last = nextFurther (gatheringIn room) last (labelIn (getD p 0 0)) (typeIn (getD p 0 0)) (drop 1 p)
+answer room p last = nextFurther (gatheringIn room) last (labelIn (getD p 0 0)) (mtypeIn (getD p 0 0)) (drop 1 p)
 
 absent : (room p : List ℕ) (last : Bool) → getD room 0 0 ≡ 0 → Ended ≡ answer room p last
 unfolding nextFurther gatheringIn
@@ -42,14 +42,15 @@ chosen room last t = if t then (if last then Complete (getD room 1 0) (getD room
 told : (room p : List ℕ) (last : Bool) → (getD room 0 0 ≡ 0 → ⊥)
   → answer room p last
     ≡ chosen room last
-        (eqb (labelIn (getD p 0 0)) (getD room 1 0) && eqb (typeIn (getD p 0 0)) (getD room 2 0) && owed room last && fits room p)
+        (eqb (labelIn (getD p 0 0)) (getD room 1 0) && eqb (mtypeIn (getD p 0 0)) (getD room 2 0) && owed room last
+         && fits room p)
 unfolding nextFurther isNext gatheringAt longest
 told room p last there = rw (gathering-there room there)
 
 module _ (room p : List ℕ) (last : Bool) (there : getD room 0 0 ≡ 0 → ⊥) (octet : getD p 0 0 < 256) where
   by-tests : (a b c d : Bool) → eqb (getD p 0 0 / 16) (getD room 1 0) ≡ a → eqb (getD p 0 0 % 4) (getD room 2 0) ≡ b
     → owed room last ≡ c → fits room p ≡ d → chosen room last (a && b && c && d) ≡ answer room p last
-  unfolding typeIn
+  unfolding mtypeIn
   by-tests a b c d e f o i = sym (told room p last there ∙ rw (← label-in (getD p 0 0) octet, e, f, o, i))
 
   other-label : (getD p 0 0 / 16 ≡ getD room 1 0 → ⊥) → Ended ≡ answer room p last
@@ -65,23 +66,23 @@ record Found (room p : List ℕ) : Type 0 where
   there : getD room 0 0 ≡ 0 → ⊥
   octet : getD p 0 0 < 256
   label : getD p 0 0 / 16 ≡ getD room 1 0
-  type : getD p 0 0 % 4 ≡ getD room 2 0
+  mtype : getD p 0 0 % 4 ≡ getD room 2 0
 
 module _ (room p : List ℕ) (last : Bool) (f : Found room p) where
-  fits-read : fits room p ≡ leb (gatheredIn room + (length p - 1)) 512
+  fits-read : fits room p ≡ leb (payloadLengthIn room + (length p - 1)) 512
   fits-read =
       ap₂ (λ (n m : ℕ). leb (n + m) 512)
         (payload-length room (f .right .long) (marked room (f .right) (f .there) .fits)) (length-drop 1 p)
 
   same-message : (c d : Bool) → owed room last ≡ c → fits room p ≡ d → chosen room last (c && d) ≡ answer room p last
-  same-message c d = by-tests room p last (f .there) (f .octet) true true c d (eq-eqb _ _ (f .label)) (eq-eqb _ _ (f .type))
+  same-message c d = by-tests room p last (f .there) (f .octet) true true c d (eq-eqb _ _ (f .label)) (eq-eqb _ _ (f .mtype))
 
-  too-long : 512 < gatheredIn room + (length p - 1) → Ended ≡ answer room p last
+  too-long : 512 < payloadLengthIn room + (length p - 1) → Ended ≡ answer room p last
   too-long h =
       ap (chosen room last) (sym (and-false (owed room last)))
       ∙ same-message (owed room last) false refl (fits-read ∙ lt-leb _ 512 h)
 
-  module _ (room-left : gatheredIn room + (length p - 1) ≤ 512) where
+  module _ (room-left : payloadLengthIn room + (length p - 1) ≤ 512) where
     as-owed : (o : Bool) → owed room last ≡ o → chosen room last o ≡ answer room p last
     as-owed o e = ap (chosen room last) (sym (and-true o)) ∙ same-message o true e (fits-read ∙ le-leb _ 512 room-left)
 
@@ -113,7 +114,7 @@ found c =
       there = read .before .if1 .left;
       octet = omega (arith, read .shared-slice-known4 .given 0);
       label = if2 .if2 .left;
-      type = c .if3 .left
+      mtype = c .if3 .left
     }
 
 shared-slice-read-if1 : tie.Need-shared-slice-read-if1

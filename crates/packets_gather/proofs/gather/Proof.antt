@@ -13,12 +13,12 @@ use lib.ListN.{length, drop, getD, set}
 use lib.Seq.{set-split}
 use Rattle.rules.specs.Octets.{front}
 use Rattle.rules.specs.Packets.{Gathering, gather}
-use Rattle.rules.specs.Saved.{gatheringRoom, gatheringAt, gatheringIn, storeGathering}
-use Rattle.rules.specs.declared.Next.{Next}
-use Rattle.rules.specs.declared.Next.the-variants.{Ended, Single, Begun, Grown, Complete}
-use Rattle.rules.proofs.Next.{the-type}
+use Rattle.rules.specs.Saved.{gatheringRoom, gatheringAt, gatheringIn, storeGathering, payloadLengthIn}
+use Rattle.packets_gather.specs.declared.nexts.Next.{Next}
+use Rattle.packets_gather.specs.declared.nexts.Next.the-variants.{Ended, Single, Begun, Grown, Complete}
+use Rattle.packets_gather.proofs.nexts.Next.{the-type}
 use Rattle.packets_gather.specs.Rooms.{RoomRight}
-use Rattle.packets_gather.proofs.Rooms.{gatheredIn, marked, payload-length}
+use Rattle.packets_gather.proofs.Rooms.{marked, payload-length}
 use Rattle.packets_gather.proofs.Steps.{RoomTells, room-told}
 use Rattle.packets_gather.proofs.gather.Statement.{statement}
 use Rattle.packets_gather.proofs.gather.Tie as tie
@@ -44,7 +44,7 @@ module _ (size : ℕ) (room p : List ℕ) (right : RoomRight room) where
   -- what `grow` asks
   grows : getD room 4 0 < 256 → RoomTells size room p Grown
     → ((length room ≡ gatheringRoom) × (getD room 0 0 ≡ 1) × (getD room 5 0 < 255))
-      × ((1 ≤ length p) × (gatheredIn room + length (drop 1 p) ≤ 512))
+      × ((1 ≤ length p) × (payloadLengthIn room + length (drop 1 p) ≤ 512))
   unfolding gatheringAt
   grows octet t =
       let m = marked room right (eqb-false (getD room 0 0) 0 (t .there)) in

@@ -8,17 +8,18 @@ use mathlib.Core.Path.{_≡_, _∙_}
 use mathlib.Core.List.{List, [], _∷_}
 use mathlib.Core.Option.{Option}
 use lib.ListN.{length, drop, getD}
-use Rattle.rules.specs.Packets.{Gathering, Kind, aSingle, aStart, aContinue, anEnd, kindIn, readAs, read, packetIn}
+use Rattle.rules.specs.Packets.{Gathering, PacketType, aSingle, aStart, aContinue, anEnd, packetTypeIn, readAs, read}
+use Rattle.rules.specs.Packets.{packetIn}
 use Rattle.rules.specs.Saved.{gatheringIn}
-use Rattle.rules.specs.Wires.{nextBy, nextOf}
-use Rattle.rules.specs.declared.Next.{Next}
-use Rattle.rules.specs.declared.Next.the-variants.{Ended}
+use Rattle.packets_gather.specs.Nexts.{nextBy, nextOf}
+use Rattle.packets_gather.specs.declared.nexts.Next.{Next}
+use Rattle.packets_gather.specs.declared.nexts.Next.the-variants.{Ended}
 use Rattle.packets_gather.proofs.next.Statement.{statement}
 use Rattle.packets_gather.proofs.next.Tie as tie
 
 -- the kinds, by their packet types
-abbrev kindAt : ℕ → Kind
-kindAt n = getD (aSingle ∷ aStart ∷ aContinue ∷ anEnd ∷ []) n aSingle
+abbrev packetTypeAt : ℕ → PacketType
+packetTypeAt n = getD (aSingle ∷ aStart ∷ aContinue ∷ anEnd ∷ []) n aSingle
 
 module _ (size : ℕ) (g : Option Gathering) where
   empty : (p : List ℕ) → length p ≡ 0 → Ended ≡ nextOf size g p
@@ -31,8 +32,8 @@ module _ (size : ℕ) (g : Option Gathering) where
   too-long p h = rw (lt-ltb size (length p) h)
 
   by-type : (p : List ℕ) (n : ℕ) → 1 ≤ length p → length p ≤ size → getD p 0 0 / 4 % 4 ≡ n
-    → nextBy g (readAs (kindAt n) (getD p 0 0) (drop 1 p)) ≡ nextOf size g p
-  unfolding nextOf packetIn read kindIn
+    → nextBy g (readAs (packetTypeAt n) (getD p 0 0) (drop 1 p)) ≡ nextOf size g p
+  unfolding nextOf packetIn read packetTypeIn
   by-type [] n h k e = absurd (omega arith)
   by-type (x ∷ q) n h k e = rw (le-ltb size (length (x ∷ q)) k, e)
 
@@ -70,7 +71,7 @@ typed : (c : tie.After-shared-slice-known3) (n : ℕ) (r : Next)
   → let args = c .before .before .before .before .before .args in
     let g = gatheringIn (args .room .now) in
     let p = args .packet .now in
-    r ≡ nextBy g (readAs (kindAt n) (getD p 0 0) (drop 1 p)) → getD p 0 0 / 4 % 4 ≡ n → r ≡ nextOf (args .size) g p
+    r ≡ nextBy g (readAs (packetTypeAt n) (getD p 0 0) (drop 1 p)) → getD p 0 0 / 4 % 4 ≡ n → r ≡ nextOf (args .size) g p
 typed c n r e t =
     let args = c .before .before .before .before .before .args in
     e ∙ by-type (args .size) (gatheringIn (args .room .now)) (args .packet .now) n (omega arith) (omega arith) t

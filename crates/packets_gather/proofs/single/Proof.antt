@@ -7,10 +7,10 @@ use mathlib.Core.Path.{_≡_, refl}
 use mathlib.Core.List.{List, [], _∷_}
 use mathlib.Core.Option.{Option}
 use lib.ListN.{length, drop, getD}
-use Rattle.rules.specs.Packets.{Gathering, aSingle, readAs, messageFrom, typeIn, signalIn, longest}
-use Rattle.rules.specs.Wires.{nextBy}
-use Rattle.rules.specs.declared.Next.{Next}
-use Rattle.rules.specs.declared.Next.the-variants.{Ended, Single}
+use Rattle.rules.specs.Packets.{Gathering, aSingle, readAs, messageFrom, mtypeIn, signalIn, longest}
+use Rattle.packets_gather.specs.Nexts.{nextBy}
+use Rattle.packets_gather.specs.declared.nexts.Next.{Next}
+use Rattle.packets_gather.specs.declared.nexts.Next.the-variants.{Ended, Single}
 use Rattle.packets_gather.proofs.Headers.{label-in}
 use Rattle.packets_gather.proofs.single.Statement.{statement}
 use Rattle.packets_gather.proofs.single.Tie as tie
@@ -32,7 +32,7 @@ long g (x ∷ y ∷ p) h = rw (lt-leb (length p) 512 (omega arith))
 
 good : (g : Option Gathering) (p : List ℕ) → 2 ≤ length p → length p ≤ 514 → getD p 0 0 < 256
   → Single (getD p 0 0 / 16) (getD p 0 0 % 4) (getD p 1 0 % 64) ≡ answer g p
-unfolding nextBy readAs messageFrom typeIn signalIn longest
+unfolding nextBy readAs messageFrom mtypeIn signalIn longest
 good g [] h k small = absurd (omega arith)
 good g (x ∷ []) h k small = absurd (omega arith)
 good g (x ∷ y ∷ p) h k small = rw (label-in x small, le-leb (length p) 512 (omega arith))

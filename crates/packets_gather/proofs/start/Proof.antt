@@ -9,9 +9,9 @@ use mathlib.Core.Option.{Option}
 use lib.ListN.{length, drop, getD}
 use Rattle.rules.specs.Octets.{between}
 use Rattle.rules.specs.Packets.{Gathering, aStart, readAs, messageFrom, longest}
-use Rattle.rules.specs.Wires.{nextBy}
-use Rattle.rules.specs.declared.Next.{Next}
-use Rattle.rules.specs.declared.Next.the-variants.{Ended, Begun}
+use Rattle.packets_gather.specs.Nexts.{nextBy}
+use Rattle.packets_gather.specs.declared.nexts.Next.{Next}
+use Rattle.packets_gather.specs.declared.nexts.Next.the-variants.{Ended, Begun}
 use Rattle.packets_gather.proofs.start.Statement.{statement}
 use Rattle.packets_gather.proofs.start.Tie as tie
 

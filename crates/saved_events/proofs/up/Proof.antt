@@ -58,8 +58,8 @@ returns c =
     let in-loop = got .before .before in
     let at-loop = in-loop .before in
     let start = at-loop .before .before in
-    up-done (start .args .count) (at-loop .loop .i) (at-loop .loop .records) (start .args .records .now) (was-set .set-head .last .0)
-      (got .get .result) (moved .turned .result) (asked .is-awaited .result) (in-loop .loop-test .taken) (start .pre)
+    up-done (start .args .count) (at-loop .loop .i) (at-loop .loop .records) (start .args .records .now)
+      (was-set .set-head .last .0) (got .get .result) (moved .turned .result) (asked .is-awaited .result) (in-loop .loop-test .taken) (start .pre)
       (at-loop .loop .inv .2) (at-loop .loop .inv .0) (got .get .ensures) (asked .is-awaited .ensures) (tested .if1 .taken)
       (moved .turned .ensures) (was-set .set-head .ensures)
 

@@ -9,8 +9,8 @@ use Rattle.rules.specs.Octets.{if_then_else_, front}
 use Rattle.rules.specs.Book.{bookOf}
 use Rattle.rules.specs.Commands.{accept, reject, stays, rejects, lengthRight, discovered, discover, obey}
 use Rattle.rules.specs.Host.{payloadOf}
-use Rattle.rules.specs.Answers.{saidOf}
-use Rattle.rules.specs.declared.Said.{Said}
+use Rattle.commands_reply.specs.Answers.{saidOf}
+use Rattle.commands_reply.specs.declared.Said.{Said}
 use Rattle.rules.specs.declared.Signal.the-variants.{Discover}
 use Rattle.saved.specs.Serves.{Serves}
 use Rattle.commands_reply.specs.Obeys.{endsOf, Obeys}

@@ -2,7 +2,7 @@
 use mathlib.Core.Path.{refl, sym, _∙_}
 use borrow.Author.Needs.{needs}
 use Rattle.rules.specs.Host.{payloadOf}
-use Rattle.rules.specs.Answers.{saidOf}
+use Rattle.commands_reply.specs.Answers.{saidOf}
 use Rattle.octets.proofs.Patches.{front-patch}
 use Rattle.commands_show.proofs.shows.accepted_with.Statement.{statement}
 use Rattle.commands_show.proofs.shows.accepted_with.Tie as tie

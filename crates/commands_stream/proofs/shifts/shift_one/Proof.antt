@@ -28,7 +28,8 @@ returns c =
     let got = moved .before .before in
     let args = got .before .before .before .args in
     stored .set-head .ensures
-    ∙ ap (λ h. patch (args .index * recordRoom) (headOctets h (configSizeAt (args .index) (args .records .now))) (args .records .now))
+    ∙ ap (λ h. patch (args .index * recordRoom) (headOctets h (configSizeAt (args .index) (args .records .now)))
+            (args .records .now))
         (moved .in-state .ensures ∙ ap (inState (args .to)) (got .get .ensures))
 
 pub shift-one-spec : {M : Type 1} → statement M

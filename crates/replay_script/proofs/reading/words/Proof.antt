@@ -5,10 +5,10 @@ use Rattle.replay_script.proofs.reading.words.Statement.{statement}
 use Rattle.replay_script.proofs.reading.words.Tie as tie
 
 abbrev Inv-loop : tie.InvT-loop
-Inv-loop kinds text from numbers₀ at₀ odd₀ k₀ numbers at odd k = k ≤ 6
+Inv-loop forms text from numbers₀ at₀ odd₀ k₀ numbers at odd k = k ≤ 6
 
 abbrev μ-loop : tie.MeasureT-loop
-μ-loop kinds text from numbers₀ at₀ odd₀ k₀ numbers at odd k = 6 - k
+μ-loop forms text from numbers₀ at₀ odd₀ k₀ numbers at odd k = 6 - k
 
 pub words-spec : {M : Type 1} → statement M
 words-spec =

@@ -7,10 +7,10 @@ use Rattle.replay_steps.proofs.arrivals.say_reply.Statement.{statement}
 use Rattle.replay_steps.proofs.arrivals.say_reply.Tie as tie
 
 abbrev Inv-loop : tie.InvT-loop
-Inv-loop size label kind signal payload piece₀ count i₀ piece i = (i ≤ count) × (length piece ≡ 672)
+Inv-loop size label mtype signal payload piece₀ count i₀ piece i = (i ≤ count) × (length piece ≡ 672)
 
 abbrev μ-loop : tie.MeasureT-loop
-μ-loop size label kind signal payload piece₀ count i₀ piece i = count - i
+μ-loop size label mtype signal payload piece₀ count i₀ piece i = count - i
 
 pub say-reply-spec : {M : Type 1} → statement M
 say-reply-spec =

@@ -27,7 +27,8 @@ returns : tie.Need-returns
 returns c =
     let args = c .before .before .before .before .before .before .args in
     let l = args .records .now in
-    c .before .before .set .ensures ∙ sym (ap (λ k. patch (args .i * recordRoom) (headOctets (args .h) k) l) (size-octet (args .i) l))
+    c .before .before .set .ensures
+    ∙ sym (ap (λ k. patch (args .i * recordRoom) (headOctets (args .h) k) l) (size-octet (args .i) l))
 
 pub set-head-spec : {M : Type 1} → statement M
 set-head-spec =

@@ -38,7 +38,7 @@ returns-5 c =
     let args = counted .before .args in
     rw (le-leb 2 (args .count) (counted .if1 .left), le-leb 1 (args .parts) (begun .if2 .left),
       lt-ltb (args .parts) (args .count) (owed .if3 .left), lt-ltb (args .label) 16 (labelled .if4 .left),
-      le-ltb (args .kind) 4 (c .if5 .taken))
+      le-ltb (args .mtype) 4 (c .if5 .taken))
 
 returns-6 : tie.Need-returns-6
 returns-6 c =
@@ -49,7 +49,7 @@ returns-6 c =
     let args = counted .before .args in
     rw (le-leb 2 (args .count) (counted .if1 .left), le-leb 1 (args .parts) (begun .if2 .left),
       lt-ltb (args .parts) (args .count) (owed .if3 .left), lt-ltb (args .label) 16 (labelled .if4 .left),
-      lt-ltb (args .kind) 4 (c .if5 .left))
+      lt-ltb (args .mtype) 4 (c .if5 .left))
 
 pub head-right-spec : {M : Type 1} → statement M
 head-right-spec = tie.close (tie.spec returns returns-2 returns-3 returns-4 returns-5 returns-6)

@@ -1,4 +1,4 @@
--- A kind of event that is none of the three is the channel of SEID 0 down, and a right book's SEIDs are 1 to 62: it is refused
+-- An event's number that is none of the three is the channel of SEID 0 down, and a right book's SEIDs are 1 to 62: it is refused
 -- with the book's number, with 12, or with 10, and changes nothing.
 use Prim.Native.Nat.{ℕ, zero, suc, _≤_}
 use native.Mathlib.Omega.{arith}
@@ -23,14 +23,14 @@ use Rattle.bridge.proofs.Refusing.{number-first}
 use Rattle.bridge.proofs.Happened.{event-refused}
 use Rattle.host.specs.Exports.{ours, eventOf}
 
-pub no-kind : (kind seid : ℕ) → (kind ≡ 0 → ⊥) → (kind ≡ 1 → ⊥) → (kind ≡ 2 → ⊥) → Down (ours 0) ≡ eventOf kind seid
-no-kind zero seid a b c = absurd (a refl)
-no-kind (suc zero) seid a b c = absurd (b refl)
-no-kind (suc (suc zero)) seid a b c = absurd (c refl)
-no-kind (suc (suc (suc n))) seid a b c = refl
+pub no-event : (which seid : ℕ) → (which ≡ 0 → ⊥) → (which ≡ 1 → ⊥) → (which ≡ 2 → ⊥) → Down (ours 0) ≡ eventOf which seid
+no-event zero seid a b c = absurd (a refl)
+no-event (suc zero) seid a b c = absurd (b refl)
+no-event (suc (suc zero)) seid a b c = absurd (c refl)
+no-event (suc (suc (suc n))) seid a b c = refl
 
-pub down-kind : (kind seid : ℕ) → kind ≡ 1 → Down (ours seid) ≡ eventOf kind seid
-down-kind kind seid e = rw e
+pub down-event : (which seid : ℕ) → which ≡ 1 → Down (ours seid) ≡ eventOf which seid
+down-event which seid e = rw e
 
 -- ---- No book has SEID 0
 
@@ -68,9 +68,9 @@ zero-down book saved = go (told (eqb (refusalOf book saved) 0))
         sym (event-refused book saved (Down (ours 0)) n refl h)
         ∙ ap (λ (k : ℕ). record { number = k; saved = saved }) (number-first n 10 h)
 
-pub other-kind : (book saved : List ℕ) (kind seid : ℕ) → 3 ≤ kind
-  → eventCall book saved (eventOf kind seid) ≡ record { number = numberOr (refusalOf book saved) 10; saved = saved }
-other-kind book saved kind seid h =
+pub other-event : (book saved : List ℕ) (which seid : ℕ) → 3 ≤ which
+  → eventCall book saved (eventOf which seid) ≡ record { number = numberOr (refusalOf book saved) 10; saved = saved }
+other-event book saved which seid h =
     ap (eventCall book saved)
-      (sym (no-kind kind seid (λ e. absurd (omega arith)) (λ e. absurd (omega arith)) (λ e. absurd (omega arith))))
+      (sym (no-event which seid (λ e. absurd (omega arith)) (λ e. absurd (omega arith)) (λ e. absurd (omega arith))))
     ∙ zero-down book saved
