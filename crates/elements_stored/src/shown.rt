@@ -16,21 +16,30 @@ pub fn show(area: &mut [u8], to: usize, list: &[u8], at: usize) -> usize
       ≡ patch to (written (upToCodec (items (drop at (now (list .entry)))))) (now (area .entry)) ⌝ }
     ensures end { λ r. ⌜ r ≡ to + length (written (upToCodec (items (drop at (now (list .entry)))))) ⌝ }
 {
-    let element = element_at(list, at);
-    match element {
-        Element::End => to,
-        Element::Short { category: _ } => to,
-        Element::Whole {
-            category,
-            length,
-            first,
-        } => {
-            if category <= 7 {
-                octets::put(area, to, octets::part(list, at, length + 2));
-                show(area, to + length + 2, list, first + length)
-            } else {
-                show(area, to, list, first + length)
+    let mut end = to;
+    let mut place = at;
+    while place < list.len() {
+        let element = element_at(list, place);
+        match element {
+            Element::End => {
+                return end;
+            }
+            Element::Short { category: _ } => {
+                return end;
+            }
+            Element::Whole {
+                category,
+                length,
+                first,
+            } => {
+                let from = place;
+                place = first + length;
+                if category <= 7 {
+                    octets::put(area, end, octets::part(list, from, length + 2));
+                    end = end + length + 2;
+                }
             }
         }
     }
+    end
 }

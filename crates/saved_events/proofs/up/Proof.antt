@@ -24,8 +24,7 @@ get-requires c κs =
     let at-loop = c .before .before in
     let start = at-loop .before .before in
     has-room (start .args .count) (at-loop .loop .i) (start .args .records .now) (at-loop .loop .records)
-        (c .before .loop-test .taken)
-      (start .pre) (at-loop .loop .inv .0)
+      (c .before .loop-test .taken) (start .pre) (at-loop .loop .inv .0)
 
 is-awaited-requires : tie.Need-is-awaited-requires Inv-loop μ-loop
 is-awaited-requires c κs = search needs
@@ -39,8 +38,7 @@ set-head-requires c κs =
     let at-loop = in-loop .before in
     let start = at-loop .before .before in
     has-room (start .args .count) (at-loop .loop .i) (start .args .records .now) (at-loop .loop .records)
-        (in-loop .loop-test .taken)
-      (start .pre) (at-loop .loop .inv .0)
+      (in-loop .loop-test .taken) (start .pre) (at-loop .loop .inv .0)
 
 same-length : tie.Need-same-length Inv-loop μ-loop
 same-length c =
@@ -59,9 +57,9 @@ returns c =
     let at-loop = in-loop .before in
     let start = at-loop .before .before in
     up-done (start .args .count) (at-loop .loop .i) (at-loop .loop .records) (start .args .records .now)
-      (was-set .set-head .last .0) (got .get .result) (moved .turned .result) (asked .is-awaited .result) (in-loop .loop-test .taken) (start .pre)
-      (at-loop .loop .inv .2) (at-loop .loop .inv .0) (got .get .ensures) (asked .is-awaited .ensures) (tested .if1 .taken)
-      (moved .turned .ensures) (was-set .set-head .ensures)
+      (was-set .set-head .last .0) (got .get .result) (moved .turned .result) (asked .is-awaited .result)
+      (in-loop .loop-test .taken) (start .pre) (at-loop .loop .inv .2) (at-loop .loop .inv .0) (got .get .ensures)
+      (asked .is-awaited .ensures) (tested .if1 .taken) (moved .turned .ensures) (was-set .set-head .ensures)
 
 add-i : tie.Need-add-i Inv-loop μ-loop
 add-i c = omega arith
@@ -80,8 +78,7 @@ loop-again c =
       omega arith,
       up-goes-on (start .args .count) (at-loop .loop .i) (at-loop .loop .records) (start .args .records .now) (got .get .result)
         (asked .is-awaited .result) (in-loop .loop-test .taken) (at-loop .loop .inv .2) (at-loop .loop .inv .0)
-            (got .get .ensures)
-        (asked .is-awaited .ensures) (c .if1 .left))
+        (got .get .ensures) (asked .is-awaited .ensures) (c .if1 .left))
 
 same-length-2 : tie.Need-same-length-2 Inv-loop μ-loop
 same-length-2 c = ap length (c .before .loop .inv .0)
