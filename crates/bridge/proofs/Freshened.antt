@@ -15,7 +15,7 @@ use Rattle.rules.proofs.SavedReads.{records-room}
 use Rattle.bridge.specs.Calls.{Freshens}
 use Rattle.bridge_packet.proofs.Halves.{behind-whole}
 use Rattle.bridge.proofs.Halves.{counted-back}
-use Rattle.bridge.proofs.Refusing.{book-first}
+use Rattle.bridge_refusals.proofs.Refusing.{book-first}
 
 -- one endpoint an entry
 fresh-length : (book : Book) → length (freshEnds book) ≡ length book

@@ -29,7 +29,7 @@ use Rattle.saved_events.specs.Events.{Turned, upped, downed, downedAt, allIdle}
 use Rattle.bridge.specs.Calls.{Happens}
 use Rattle.bridge_packet.proofs.Halves.{behind-whole, tail-back}
 use Rattle.bridge.proofs.Halves.{cleared-back}
-use Rattle.bridge.proofs.Refusing.{number-first, Calm}
+use Rattle.bridge_refusals.proofs.Refusing.{number-first, Calm}
 
 module _ (book saved : List ℕ) where
   pub event-refused : (e : Event) (n : ℕ) → n ≡ refusalOf book saved → (n ≡ 0 → ⊥) → Happens book saved e n saved

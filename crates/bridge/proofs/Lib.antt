@@ -1,6 +1,5 @@
 pub mod Halves
-pub mod Refusing
-pub mod Asked
+pub mod PacketTaken
 pub mod Happened
 pub mod Freshened
 pub mod Unique

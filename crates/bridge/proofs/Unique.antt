@@ -3,14 +3,14 @@
 use Prim.Native.Nat.{ℕ}
 use mathlib.Core.Path.{_≡_, sym, ap, _∙_}
 use mathlib.Core.List.{List}
-use Rattle.rules.specs.Host.{Kept, Answered, Cut, checkCall, settingsCall, statusCall, packetsCall}
+use Rattle.rules.specs.Host.{Kept, Answered, Cut, checkCall, settingsCall, statusCall, packetsCall, delayCall}
 use Rattle.rules.specs.declared.OurSeid.{OurSeid}
 use Rattle.rules.specs.declared.Event.{Event}
 use Rattle.rules.specs.declared.Piece.{Piece}
 use Rattle.rules.specs.declared.Standing.{Standing}
 use Rattle.rules.specs.declared.Heard.{Heard}
 use Rattle.rules.specs.declared.Told.{Told}
-use Rattle.bridge.specs.Calls.{Freshens, Takes, Happens, Hears, Cuts}
+use Rattle.bridge.specs.Calls.{Freshens, Takes, Happens, Cuts}
 
 pub check-unique : (book : List ℕ) {n m : ℕ} → n ≡ checkCall book → m ≡ checkCall book → n ≡ m
 check-unique book p q = p ∙ sym q
@@ -41,7 +41,8 @@ pub settings-told-unique : (book saved : List ℕ) (s : OurSeid) {n m : ℕ} →
   → m ≡ settingsCall book saved s .number → n ≡ m
 settings-told-unique book saved s p q = p ∙ sym q
 
-pub delay-unique : (book saved : List ℕ) (s : OurSeid) {h k : Heard} → Hears book saved s h → Hears book saved s k → h ≡ k
+pub delay-unique : (book saved : List ℕ) (s : OurSeid) {h k : Heard} → h ≡ delayCall book saved s → k ≡ delayCall book saved s
+  → h ≡ k
 delay-unique book saved s p q = p ∙ sym q
 
 pub status-unique : (book saved : List ℕ) (s : OurSeid) {t u : Standing} → t ≡ statusCall book saved s

@@ -1,12 +1,6 @@
 // The public calls. None asks anything of its caller: every book, size, saved connection, packet and area gets an answer, and a
 // refusal leaves every octet of every lent area. The numbers are document 01's: 1 to 7 the book, 8 the packet size, 9 an area too
 // short, 10 an event or a question that does not apply, 11 a message that is not to be cut, 12 the saved connection, 0 done.
-mod refusals;
-mod questions;
-mod delays;
-mod standings;
-
-use book::places::Located;
 use rules::Event;
 use rules::Heard;
 use rules::OurSeid;
@@ -16,11 +10,10 @@ use rules::Told;
 use rules::layout::COUNT;
 use rules::layout::RECORD;
 use rules::layout::RECORDS;
-use saved::parts::records_of;
 
 ghost use mathlib.Core.Path.{_≡_};
-ghost use Rattle.rules.specs.Host.{checkCall, settingsCall, statusCall, packetsCall};
-ghost use Rattle.bridge.specs.Calls.{Freshens, Takes, Happens, Hears, Cuts};
+ghost use Rattle.rules.specs.Host.{checkCall, settingsCall, delayCall, statusCall, packetsCall};
+ghost use Rattle.bridge.specs.Calls.{Freshens, Takes, Happens, Cuts};
 
 // Whether a book is right: 0, or its number.
 pub fn check(book: &[u8]) -> u8
@@ -52,7 +45,7 @@ pub fn packet(book: &[u8], size: usize, saved: &mut [u8], packet: &[u8], reply: 
     ensures { λ r. ⌜ Takes (now (book .entry)) size (now (saved .entry)) (now (packet .entry)) (now (reply .entry))
         r (now (saved .exit)) (now (reply .exit)) ⌝ }
 {
-    let number = refusals::packet_refusal(book, size, saved, reply);
+    let number = bridge_refusals::packet_refusal(book, size, saved, reply);
     if number != 0 {
         return bridge_packet::nothing(number);
     }
@@ -63,7 +56,7 @@ pub fn packet(book: &[u8], size: usize, saved: &mut [u8], packet: &[u8], reply: 
 pub fn event(book: &[u8], saved: &mut [u8], event: Event) -> u8
     ensures { λ r. ⌜ Happens (now (book .entry)) (now (saved .entry)) event r (now (saved .exit)) ⌝ }
 {
-    let number = refusals::refusal(book, saved);
+    let number = bridge_refusals::refusal(book, saved);
     if number != 0 {
         return number;
     }
@@ -83,56 +76,28 @@ pub fn event(book: &[u8], saved: &mut [u8], event: Event) -> u8
 pub fn settings<'a>(book: &'a [u8], saved: &'a [u8], seid: OurSeid) -> &'a [u8]
     ensures { λ r. ⌜ now r ≡ settingsCall (now (book .entry)) (now (saved .entry)) seid .part ⌝ }
 {
-    if refusals::refusal(book, saved) != 0 {
-        return &book[0..0];
-    }
-    let located = book::places::locate(book, seid);
-    match located {
-        Located::Unknown => &book[0..0],
-        Located::Known(place) => {
-            let index = place.index;
-            let config = saved::records::config(records_of(saved), index);
-            if config.len() == 0 {
-                octets::part(book, place.from, place.size)
-            } else {
-                config
-            }
-        }
-    }
+    bridge_questions::settings(book, saved, seid)
 }
 
 // The number of that question.
 pub fn settings_told(book: &[u8], saved: &[u8], seid: OurSeid) -> u8
     ensures { λ r. ⌜ r ≡ settingsCall (now (book .entry)) (now (saved .entry)) seid .number ⌝ }
 {
-    let number = refusals::refusal(book, saved);
-    if number != 0 {
-        return number;
-    }
-    let located = book::places::locate(book, seid);
-    match located {
-        Located::Unknown => 10,
-        Located::Known(_) => 0,
-    }
+    bridge_questions::settings_told(book, saved, seid)
 }
 
 // The delay that the far end reported for an endpoint.
 pub fn delay(book: &[u8], saved: &[u8], seid: OurSeid) -> Heard
-    ensures { λ r. ⌜ Hears (now (book .entry)) (now (saved .entry)) seid r ⌝ }
+    ensures { λ r. ⌜ r ≡ delayCall (now (book .entry)) (now (saved .entry)) seid ⌝ }
 {
-    let found = questions::ask(book, saved, seid);
-    let head = found.head;
-    let delay = head.delay;
-    delays::heard(found.number, delay)
+    bridge_questions::delay(book, saved, seid)
 }
 
 // How an endpoint stands: its state, its channel and the far SEID.
 pub fn status(book: &[u8], saved: &[u8], seid: OurSeid) -> Standing
     ensures { λ r. ⌜ r ≡ statusCall (now (book .entry)) (now (saved .entry)) seid ⌝ }
 {
-    let found = questions::ask(book, saved, seid);
-    let head = found.head;
-    standings::standing(found.number, head)
+    bridge_questions::status(book, saved, seid)
 }
 
 // How many packets a payload of this length takes, 0 where the size or the length is refused.

@@ -16,6 +16,7 @@ use Rattle.rules.specs.Saved.{recordsPlace, areaFor, countIn, linkOf, recordsOf
 use Rattle.rules.specs.Saved.{connectionIn}
 use Rattle.rules.specs.Saved.{store}
 use Rattle.rules.specs.Host.{nothingSaid, turnOf, takes, Answered}
+use Rattle.rules.specs.declared.Header.{Header}
 use Rattle.packets_gather.specs.Nexts.{nextOf}
 use Rattle.packets_gather.specs.declared.nexts.Next.the-variants.{Single, Complete}
 use Rattle.rules.proofs.SavedReads.{ends-kept, length-endsIn}
@@ -31,13 +32,14 @@ use Rattle.packets_gather.proofs.Rooms.{room-kept}
 use Rattle.packets_gather.proofs.Steps.{Singles, room-told}
 use Rattle.packets_gather.proofs.Done.{roomAfter, Assembled, assembled}
 use Rattle.saved_legal.proofs.RightSaved.{Right, right-saved, serves}
-use Rattle.bridge_packet.specs.Taken.{Takes, Joins, withLink, joined, areaAfter, served, taken}
+use Rattle.bridge_packet.specs.Taken.{MayTake, Joins, withLink, joinedPayload, gatheredArea, served, takenOn}
 use Rattle.bridge_packet.proofs.Halves.{link-with, front-with, records-with, long-with}
 
 abbrev pub answered : Told → List ℕ → List ℕ → Answered
 answered told saved reply = record { told = told; saved = saved; reply = reply }
 
-module _ (book : List ℕ) (size : ℕ) (saved p reply : List ℕ) (may : Takes book saved reply) (octets : octetsIn saved ≡ true) where
+module _ (book : List ℕ) (size : ℕ) (saved p reply : List ℕ) (may : MayTake book saved reply)
+    (octets : octetsIn saved ≡ true) where
   abbrev room : List ℕ
   room = linkOf saved
 
@@ -61,22 +63,22 @@ module _ (book : List ℕ) (size : ℕ) (saved p reply : List ℕ) (may : Takes 
   long = omega (arith, right .area)
 
   -- the parts after the gathering
-  after-room : linkOf (areaAfter size saved p) ≡ roomAfter size room p
-  unfolding areaAfter
+  after-room : linkOf (gatheredArea size saved p) ≡ roomAfter size room p
+  unfolding gatheredArea
   after-room = link-with saved (roomAfter size room p) long (kept .long)
 
-  after-records : recordsOf (areaAfter size saved p) ≡ records
-  unfolding areaAfter
+  after-records : recordsOf (gatheredArea size saved p) ≡ records
+  unfolding gatheredArea
   after-records = records-with saved (roomAfter size room p) long (kept .long)
 
-  after-long : recordsPlace ≤ length (areaAfter size saved p)
-  unfolding areaAfter
+  after-long : recordsPlace ≤ length (gatheredArea size saved p)
+  unfolding gatheredArea
   after-long = long-with saved (roomAfter size room p) long (kept .long)
 
   -- what stands before the records then, as it is stored with as many endpoints
   after-front : (e : Ends) → length e ≡ length (bookOf book)
-    → take recordsPlace (areaAfter size saved p) ≡ length e ∷ roomAfter size room p
-  unfolding areaAfter countIn
+    → take recordsPlace (gatheredArea size saved p) ≡ length e ∷ roomAfter size room p
+  unfolding gatheredArea countIn
   after-front e counted =
       front-with saved (roomAfter size room p) long (kept .long)
       ∙ ap (λ (x : List ℕ). x ++ roomAfter size room p) (take-suc saved 0 0 (omega (arith, long)))
@@ -91,13 +93,13 @@ module _ (book : List ℕ) (size : ℕ) (saved p reply : List ℕ) (may : Takes 
       legal-length (bookOf book) _ (legal-ends (bookOf book) _ lawful .every)
 
   may-serve : (payload : List ℕ) → length payload ≤ 512
-    → Serves book (recordsOf (areaAfter size saved p)) payload reply
+    → Serves book (recordsOf (gatheredArea size saved p)) payload reply
   may-serve payload short = rw after-records (serves book saved payload reply (may .right) right short (may .room))
 
   -- a message that is complete
   serves-it : (m : Message) → gather size (gatheringIn room) p .done ≡ some m
-    → served book m (areaAfter size saved p) reply ≡ taken book size saved p reply
-  unfolding served taken takes turnOf connectionIn store
+    → served book m (gatheredArea size saved p) reply ≡ takenOn book size saved p reply
+  unfolding served takenOn takes turnOf connectionIn store
   serves-it m e =
       let same =
         subst
@@ -113,9 +115,9 @@ module _ (book : List ℕ) (size : ℕ) (saved p reply : List ℕ) (may : Takes 
           (sym e))
 
   -- and where none is
-  pub nothing-done : (told : Told) (after : List ℕ) → after ≡ areaAfter size saved p → told ≡ nothingSaid 0
-    → gather size (gatheringIn room) p .done ≡ none → answered told after reply ≡ taken book size saved p reply
-  unfolding areaAfter withLink countIn taken takes turnOf connectionIn store
+  pub nothing-done : (told : Told) (after : List ℕ) → after ≡ gatheredArea size saved p → told ≡ nothingSaid 0
+    → gather size (gatheringIn room) p .done ≡ none → answered told after reply ≡ takenOn book size saved p reply
+  unfolding gatheredArea withLink countIn takenOn takes turnOf connectionIn store
   nothing-done told after g e f =
       let stored = ends-kept (length (bookOf book)) records (right .held .room) (right .held .right) (right .held .octets) in
       let first =
@@ -130,39 +132,39 @@ module _ (book : List ℕ) (size : ℕ) (saved p reply : List ℕ) (may : Takes 
             answered (t .told) (store (t .connection) saved) (front (t .payload) reply))
           (sym f)
 
-  module _ (l t n : ℕ) where
-    single : nextOf size (gatheringIn room) p ≡ Single l t n → Singles l t n p (gather size (gatheringIn room) p)
-    single e = room-told size room p (Single l t n) e
+  module _ (h : Header) where
+    single : nextOf size (gatheringIn room) p ≡ Single h → Singles h p (gather size (gatheringIn room) p)
+    single e = room-told size room p (Single h) e
 
-    pub single-header : nextOf size (gatheringIn room) p ≡ Single l t n → 2 ≤ length p
+    pub single-header : nextOf size (gatheringIn room) p ≡ Single h → 2 ≤ length p
     single-header e = single e .header
 
-    module _ (after : List ℕ) (e : after ≡ areaAfter size saved p) where
+    module _ (after : List ℕ) (e : after ≡ gatheredArea size saved p) where
       -- the packet's part as it is lent
-      module _ (payload : List ℕ) (lent : payload ≡ drop 2 p) (s : nextOf size (gatheringIn room) p ≡ Single l t n) where
+      module _ (payload : List ℕ) (lent : payload ≡ drop 2 p) (s : nextOf size (gatheringIn room) p ≡ Single h) where
         pub single-serves : (recordsPlace ≤ length after) × Serves book (recordsOf after) payload reply
         single-serves = rw (e, lent) (after-long, may-serve (drop 2 p) (single s .fits))
 
         pub single-done : (a : Answered)
-          → a ≡ served book (record { label = l; mtype = t; signal = n; payload = payload }) after reply
-          → a ≡ taken book size saved p reply
+          → a ≡ served book (record { header = h; payload = payload }) after reply
+          → a ≡ takenOn book size saved p reply
         single-done a f =
             f
-            ∙ (λ k. served book (record { label = l; mtype = t; signal = n; payload = lent k }) (e k) reply)
-            ∙ serves-it (record { label = l; mtype = t; signal = n; payload = drop 2 p }) (single s .done)
+            ∙ (λ k. served book (record { header = h; payload = lent k }) (e k) reply)
+            ∙ serves-it (record { header = h; payload = drop 2 p }) (single s .done)
 
-      whole : nextOf size (gatheringIn room) p ≡ Complete l t n
-        → Assembled l t n p (linkOf after) (gather size (gatheringIn room) p .done)
-      whole s = rw (e, after-room) (assembled size room p room-right l t n s)
+      whole : nextOf size (gatheringIn room) p ≡ Complete h
+        → Assembled h p (linkOf after) (gather size (gatheringIn room) p .done)
+      whole s = rw (e, after-room) (assembled size room p room-right h s)
 
       short : length (gatheringAt (linkOf after) .message .payload) + length (drop 1 p) ≤ 512
-        → length (joined after p) ≤ 512
-      unfolding joined
-      short h =
+        → length (joinedPayload after p) ≤ 512
+      unfolding joinedPayload
+      short fits =
           let e = length-append (gatheringAt (linkOf after) .message .payload) (drop 1 p) in
           omega arith
 
-      pub joined-serves : nextOf size (gatheringIn room) p ≡ Complete l t n → Joins book after p reply
+      pub joined-serves : nextOf size (gatheringIn room) p ≡ Complete h → Joins book after p reply
       joined-serves s =
           let w = whole s in
           record {
@@ -171,17 +173,17 @@ module _ (book : List ℕ) (size : ℕ) (saved p reply : List ℕ) (may : Takes 
             gathered = w .gathered;
             fits = w .fits;
             serves =
-              subst (λ (x : List ℕ). Serves book (recordsOf x) (joined after p) reply) (sym e)
-                (may-serve (joined after p) (short (w .fits)))
+              subst (λ (x : List ℕ). Serves book (recordsOf x) (joinedPayload after p) reply) (sym e)
+                (may-serve (joinedPayload after p) (short (w .fits)))
           }
 
-      pub joined-done : (a : Answered) → nextOf size (gatheringIn room) p ≡ Complete l t n
-        → a ≡ served book (record { label = l; mtype = t; signal = n; payload = joined after p }) after reply
-        → a ≡ taken book size saved p reply
-      unfolding joined
+      pub joined-done : (a : Answered) → nextOf size (gatheringIn room) p ≡ Complete h
+        → a ≡ served book (record { header = h; payload = joinedPayload after p }) after reply
+        → a ≡ takenOn book size saved p reply
+      unfolding joinedPayload
       joined-done a s f =
           f
           ∙ ap
-              (λ (x : List ℕ). served book (record { label = l; mtype = t; signal = n; payload = joined after p }) x reply)
+              (λ (x : List ℕ). served book (record { header = h; payload = joinedPayload after p }) x reply)
               e
-          ∙ serves-it (record { label = l; mtype = t; signal = n; payload = joined after p }) (whole s .message)
+          ∙ serves-it (record { header = h; payload = joinedPayload after p }) (whole s .message)

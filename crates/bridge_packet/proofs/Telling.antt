@@ -10,6 +10,7 @@ use Rattle.rules.specs.Saved.{recordsPlace, recordsOf, endsIn}
 use Rattle.rules.specs.Commands.{Reply, silence, generalReject, accept, reject, Outcome, answer}
 use Rattle.rules.specs.Host.{nothingSaid, said, toldOf, Answered}
 use Rattle.rules.specs.declared.Told.{Told}
+use Rattle.rules.specs.declared.Header.{Header}
 use Rattle.commands_reply.specs.Answers.{saidOf, Did, did}
 use Rattle.commands_reply.specs.declared.Said.{Said}
 use Rattle.saved.specs.Serves.{Serves}
@@ -18,7 +19,7 @@ use Rattle.commands.specs.Messages.{answering}
 use Rattle.bridge_packet.specs.Taken.{spoken, served}
 use Rattle.bridge_packet.proofs.Halves.{behind-whole, tail-back}
 
-told-reply : (m : Message) (r : Reply) → spoken (m .label) (m .signal) (saidOf r) ≡ toldOf m r
+told-reply : (m : Message) (r : Reply) → spoken (m .header) (saidOf r) ≡ toldOf m r
 unfolding spoken saidOf toldOf said nothingSaid
 told-reply m silence = refl
 told-reply m generalReject = refl
@@ -33,15 +34,15 @@ module _ (book saved payload reply : List ℕ) where
   unfolding recordsOf
   whole-serves h = rw (behind-whole recordsPlace saved) h
 
-  module _ (label mtype signal : ℕ) (words : Said) (told : Told) (records′ reply′ : List ℕ) where
+  module _ (h : Header) (words : Said) (told : Told) (records′ reply′ : List ℕ) where
     abbrev message : Message
-    message = record { label = label; mtype = mtype; signal = signal; payload = payload }
+    message = record { header = h; payload = payload }
 
     abbrev outcome : Outcome
     outcome = answer (bookOf book) (endsIn (length (bookOf book)) (drop recordsPlace saved)) message
 
-    pub as-served : Obeys (answering mtype signal) book records payload reply words records′ reply′
-      → told ≡ spoken label signal words
+    pub as-served : Obeys (answering h) book records payload reply words records′ reply′
+      → told ≡ spoken h words
       → _≡_ {A = Answered}
           (record { told = told; saved = take recordsPlace saved ++
               (records′ ++ drop (length saved - recordsPlace) (drop recordsPlace saved)); reply = reply′ })
@@ -49,9 +50,9 @@ module _ (book saved payload reply : List ℕ) where
     unfolding served did answer recordsOf
     as-served e t =
         let f =
-          subst (λ (x : List ℕ). Obeys (answering mtype signal) book x payload reply words records′ reply′)
+          subst (λ (x : List ℕ). Obeys (answering h) book x payload reply words records′ reply′)
             (behind-whole recordsPlace saved) e in
-        let spoke = t ∙ ap (λ (d : Did). spoken label signal (d .said)) f ∙ told-reply message (outcome .reply) in
+        let spoke = t ∙ ap (λ (d : Did). spoken h (d .said)) f ∙ told-reply message (outcome .reply) in
         let stored = tail-back recordsPlace saved records′ ∙ ap (λ (d : Did). take recordsPlace saved ++ d .records) f in
         let written = ap (λ (d : Did). d .reply) f in
         λ k. record { told = spoke k; saved = stored k; reply = written k }

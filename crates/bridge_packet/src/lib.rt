@@ -1,6 +1,7 @@
-// A packet taken on a legal connection: it is gathered, and a message that it completes is answered.
+// A packet takenOn on a legal connection: it is gathered, and a message that it completes is answered.
 use packets_gather::nexts::Next;
 use commands_reply::Said;
+use rules::Header;
 use rules::Told;
 use rules::layout::COUNT;
 use rules::layout::RECORDS;
@@ -14,7 +15,7 @@ ghost use Rattle.rules.specs.Host.{nothingSaid, Answered};
 ghost use Rattle.packets_gather.specs.Nexts.{nextOf};
 ghost use Rattle.saved.specs.Serves.{Serves};
 ghost use Rattle.packets_gather.specs.Rooms.{RoomRight};
-ghost use Rattle.bridge_packet.specs.Taken.{Takes, Joins, spoken, joined, areaAfter, served, taken};
+ghost use Rattle.bridge_packet.specs.Taken.{MayTake, Joins, spoken, joinedPayload, gatheredArea, served, takenOn};
 
 // A refusal, or silence, whose number is 0.
 pub fn nothing(number: u8) -> Told
@@ -30,17 +31,17 @@ pub fn nothing(number: u8) -> Told
 }
 
 // What is said, with the label and the signal of the message that it answers.
-fn tell(label: u8, signal: u8, said: Said) -> Told
-    ensures { λ r. ⌜ r ≡ spoken label signal said ⌝ }
+fn tell(header: Header, said: Said) -> Told
+    ensures { λ r. ⌜ r ≡ spoken header said ⌝ }
 {
     if said.mtype == 0 {
         return nothing(0);
     }
     Told {
         number: 0,
-        label,
+        label: header.label,
         mtype: said.mtype,
-        signal,
+        signal: header.signal,
         length: said.length,
     }
 }
@@ -49,45 +50,45 @@ fn tell(label: u8, signal: u8, said: Said) -> Told
 fn gathered(saved: &mut [u8], size: usize, packet: &[u8]) -> Next
     requires { ⌜ RoomRight (linkOf (now saved)) ⌝ }
     ensures next { λ r. ⌜ r ≡ nextOf size (gatheringIn (linkOf (now (saved .entry)))) (now (packet .entry)) ⌝ }
-    ensures saved { λ _. ⌜ now (saved .exit) ≡ areaAfter size (now (saved .entry)) (now (packet .entry)) ⌝ }
+    ensures saved { λ _. ⌜ now (saved .exit) ≡ gatheredArea size (now (saved .entry)) (now (packet .entry)) ⌝ }
 {
     packets_gather::gather(&mut saved[COUNT..RECORDS], size, packet)
 }
 
 // Answers a message over the records.
-fn serve(label: u8, mtype: u8, signal: u8, book: &[u8], saved: &mut [u8], payload: &[u8], reply: &mut [u8]) -> Told
+fn serve(header: Header, book: &[u8], saved: &mut [u8], payload: &[u8], reply: &mut [u8]) -> Told
     requires { ⌜ (recordsPlace ≤ length (now saved)) × Serves (now book) (recordsOf (now saved)) (now payload) (now reply) ⌝ }
     ensures { λ r. ⌜ _≡_ {A = Answered} (record { told = r; saved = now (saved .exit); reply = now (reply .exit) })
-        (served (now (book .entry)) (record { label = label; mtype = mtype; signal = signal; payload = now (payload .entry) })
+        (served (now (book .entry)) (record { header = header; payload = now (payload .entry) })
           (now (saved .entry)) (now (reply .entry))) ⌝ }
 {
-    let said = commands::answer(mtype, signal, book, &mut saved[RECORDS..], payload, reply);
-    tell(label, signal, said)
+    let said = commands::answer(header, book, &mut saved[RECORDS..], payload, reply);
+    tell(header, said)
 }
 
 // Answers a message whose last part is in the packet and whose other parts are gathered.
-fn serve_joined(label: u8, mtype: u8, signal: u8, book: &[u8], saved: &mut [u8], packet: &[u8], reply: &mut [u8]) -> Told
+fn serve_joined(header: Header, book: &[u8], saved: &mut [u8], packet: &[u8], reply: &mut [u8]) -> Told
     requires { ⌜ Joins (now book) (now saved) (now packet) (now reply) ⌝ }
     ensures { λ r. ⌜ _≡_ {A = Answered} (record { told = r; saved = now (saved .exit); reply = now (reply .exit) })
         (served (now (book .entry))
-          (record { label = label; mtype = mtype; signal = signal; payload = joined (now (saved .entry)) (now (packet .entry)) })
+          (record { header = header; payload = joinedPayload (now (saved .entry)) (now (packet .entry)) })
           (now (saved .entry)) (now (reply .entry))) ⌝ }
 {
     let mut message = [0u8; 512];
     let length = packets_gather::assemble(&mut message, link_of(saved), packet);
-    serve(label, mtype, signal, book, saved, &message[0..length], reply)
+    serve(header, book, saved, &message[0..length], reply)
 }
 
-// Takes a packet.
+// MayTake a packet.
 pub fn take(book: &[u8], size: usize, saved: &mut [u8], packet: &[u8], reply: &mut [u8]) -> Told
-    requires { ⌜ Takes (now book) (now saved) (now reply) ⌝ }
+    requires { ⌜ MayTake (now book) (now saved) (now reply) ⌝ }
     ensures { λ r. ⌜ _≡_ {A = Answered} (record { told = r; saved = now (saved .exit); reply = now (reply .exit) })
-        (taken (now (book .entry)) size (now (saved .entry)) (now (packet .entry)) (now (reply .entry))) ⌝ }
+        (takenOn (now (book .entry)) size (now (saved .entry)) (now (packet .entry)) (now (reply .entry))) ⌝ }
 {
     let then = gathered(saved, size, packet);
     match then {
-        Next::Single { label, mtype, signal } => serve(label, mtype, signal, book, saved, &packet[2..], reply),
-        Next::Complete { label, mtype, signal } => serve_joined(label, mtype, signal, book, saved, packet, reply),
+        Next::Single(header) => serve(header, book, saved, &packet[2..], reply),
+        Next::Complete(header) => serve_joined(header, book, saved, packet, reply),
         _ => nothing(0),
     }
 }

@@ -15,7 +15,7 @@ use Rattle.rules.specs.Saved.{connectionIn, savedRight}
 use Rattle.rules.specs.Host.{Kept, nothingSaid, Answered, packetCall}
 use Rattle.rules.specs.Sessions
 use Rattle.rules.specs.Sessions.{check, fresh, packet, event, settings, delay, packets, cut, number, told, shown, heard}
-use Rattle.rules.specs.Sessions.{counted, cutOff, Done, kept, answered, call, answers, after, stands, status}
+use Rattle.rules.specs.Sessions.{counted, cutOff, Done, keeping, answered, call, answers, after, stands, status}
 use Rattle.rules.specs.Listed.{EachListed}
 use Rattle.rules.specs.Moves.{shifts, shiftsIn, StoppedSeen}
 use Rattle.rules.specs.Alike.{alike, restrained, Begins, begun, lost, cleared, compared}
@@ -117,12 +117,12 @@ keptIn x = record { number = numberBy (x .answer); saved = x .saved }
 
 pub fresh-begins : (book past input area room s area′ room′ : List ℕ)
   → Steps book past Call.Fresh input area room (Answer.Number 0) s area′ room′ → Begins book s
-unfolding exitOf callBy call kept answerIn keptIn numberBy
+unfolding exitOf callBy call keeping answerIn keptIn numberBy
 fresh-begins book past input area room s area′ room′ e = begun past (sym (ap keptIn e))
 
 pub lost-begins : (book past input area room s area′ room′ : List ℕ)
   → Steps book past (Call.Event Lost) input area room (Answer.Number 0) s area′ room′ → Begins book s
-unfolding exitOf callBy call kept answerIn keptIn numberBy
+unfolding exitOf callBy call keeping answerIn keptIn numberBy
 lost-begins book past input area room s area′ room′ e = lost past (sym (ap keptIn e))
 
 -- a right area is left

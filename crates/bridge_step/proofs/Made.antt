@@ -4,8 +4,8 @@ use mathlib.Core.Path.{_≡_, sym, ap, ap₂, _∙_}
 use mathlib.Core.List.{List}
 use lib.ListN.{length}
 use Rattle.rules.specs.Octets.{front}
-use Rattle.rules.specs.Host.{checkCall, Kept, Answered, settingsCall, statusCall, packetsCall, Cut}
-use Rattle.rules.specs.Sessions.{kept, answered, asked, call}
+use Rattle.rules.specs.Host.{checkCall, Kept, Answered, settingsCall, statusCall, packetsCall, Cut, delayCall}
+use Rattle.rules.specs.Sessions.{keeping, answered, asked, call}
 use Rattle.rules.specs.declared.OurSeid.{OurSeid}
 use Rattle.rules.specs.declared.Event.{Event}
 use Rattle.rules.specs.declared.Piece.{Piece}
@@ -14,7 +14,7 @@ use Rattle.rules.specs.declared.Heard.{Heard}
 use Rattle.rules.specs.declared.Told.{Told}
 use Rattle.octets.specs.Patch.{patch}
 use Rattle.octets.proofs.Patches.{front-patch}
-use Rattle.bridge.specs.Calls.{Freshens, Takes, Happens, Hears, Cuts}
+use Rattle.bridge.specs.Calls.{Freshens, Takes, Happens, Cuts}
 use Rattle.bridge_step.specs.declared.Call.{Call}
 use Rattle.bridge_step.specs.declared.Call.the-variants as Call
 use Rattle.bridge_step.specs.declared.Answer.the-variants.{Number, Told as ToldIt, Shown, Heard as HeardIt, Stands}
@@ -28,7 +28,7 @@ module _ (book saved : List ℕ) (k : Call) (input area room : List ℕ) where
 
   pub freshens : k ≡ Call.Fresh → (n : ℕ) (next : List ℕ) → Freshens book saved n next
     → Steps book saved k input area room (Number n) next area room
-  unfolding exitOf callBy call kept answerIn areaAfter roomAfter
+  unfolding exitOf callBy call keeping answerIn areaAfter roomAfter
   freshens is n next e =
       rw is (ap (λ (x : Kept). record { answer = Number (x .number); saved = x .saved; area = area; room = room }) e)
 
@@ -41,7 +41,7 @@ module _ (book saved : List ℕ) (k : Call) (input area room : List ℕ) where
 
   pub happens : (v : Event) → k ≡ Call.Event v → (n : ℕ) (next : List ℕ) → Happens book saved v n next
     → Steps book saved k input area room (Number n) next area room
-  unfolding exitOf callBy call kept answerIn areaAfter roomAfter
+  unfolding exitOf callBy call keeping answerIn areaAfter roomAfter
   happens v is n next e =
       rw is (ap (λ (x : Kept). record { answer = Number (x .number); saved = x .saved; area = area; room = room }) e)
 
@@ -59,7 +59,7 @@ module _ (book saved : List ℕ) (k : Call) (input area room : List ℕ) where
   unfolding exitOf callBy call asked answerIn areaAfter roomAfter
   stands s is t e = rw is (ap (λ (x : Standing). record { answer = Stands x; saved = saved; area = area; room = room }) e)
 
-  pub hears : (s : OurSeid) → k ≡ Call.Delay s → (h : Heard) → Hears book saved s h
+  pub hears : (s : OurSeid) → k ≡ Call.Delay s → (h : Heard) → h ≡ delayCall book saved s
     → Steps book saved k input area room (HeardIt h) saved area room
   unfolding exitOf callBy call asked answerIn areaAfter roomAfter
   hears s is h e =

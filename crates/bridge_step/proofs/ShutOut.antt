@@ -18,7 +18,7 @@ area = replicate 64 0
 
 -- a message of 47 octets, which takes two packets of 48
 abbrev longer : Message
-longer = record { label = 1; mtype = 2; signal = 12; payload = replicate 47 0xAB }
+longer = record { header = record { label = 1; mtype = 2; signal = 12 }; payload = replicate 47 0xAB }
 
 -- Set Configuration for the trace book's first endpoint, Get Configuration and Open for it, and the first packet of the message
 unfoldable pub session : List Call

@@ -41,7 +41,8 @@ askedOf room (delay s) = record { call = Delay s; input = []; area = []; room = 
 askedOf room (status s) = record { call = Status s; input = []; area = []; room = room }
 askedOf room (packets size n) = record { call = Packets size n; input = []; area = []; room = room }
 askedOf room (cut size m k area) =
-    record { call = Cut size (m .label) (m .mtype) (m .signal) k; input = m .payload; area = area; room = room }
+    let h = m .header in
+    record { call = Cut size (h .label) (h .mtype) (h .signal) k; input = m .payload; area = area; room = room }
 
 -- what the host reads of an answer: its numbers, the lent area at exit, and the part at the front of the room
 unfoldable pub readBy : Answer → List ℕ → List ℕ → Sessions.Answer

@@ -29,7 +29,7 @@ callBy (Delay s) input area = delay s
 callBy (Status s) input area = status s
 callBy (Packets size length) input area = packets size length
 callBy (Cut size label mtype signal index) input area =
-    cut size (record { label = label; mtype = mtype; signal = signal; payload = input }) index area
+    cut size (record { header = record { label = label; mtype = mtype; signal = signal }; payload = input }) index area
 
 -- an answer: its numbers, and of the part that is shown the length
 unfoldable pub answerIn : Sessions.Answer → Answer

@@ -5,6 +5,7 @@ use commands_checks::preambles::Met;
 use commands_checks::preambles::preamble;
 use commands_checks::tables::signal_of;
 use commands_reply::Said;
+use rules::Header;
 use rules::Signal;
 
 ghost use mathlib.Core.Path.{_≡_};
@@ -69,13 +70,13 @@ pub fn obey(signal: u8, book: &[u8], records: &mut [u8], payload: &[u8], reply: 
 }
 
 // A message of any type: one that is no command is not answered.
-pub fn answer(mtype: u8, signal: u8, book: &[u8], records: &mut [u8], payload: &[u8], reply: &mut [u8]) -> Said
+pub fn answer(header: Header, book: &[u8], records: &mut [u8], payload: &[u8], reply: &mut [u8]) -> Said
     requires { ⌜ Serves (now book) (now records) (now payload) (now reply) ⌝ }
-    ensures { λ r. ⌜ Obeys (answering mtype signal) (now (book .entry)) (now (records .entry)) (now (payload .entry))
+    ensures { λ r. ⌜ Obeys (answering header) (now (book .entry)) (now (records .entry)) (now (payload .entry))
         (now (reply .entry)) r (now (records .exit)) (now (reply .exit)) ⌝ }
 {
-    if mtype != 0 {
+    if header.mtype != 0 {
         return commands_reply::silent();
     }
-    obey(signal, book, records, payload, reply)
+    obey(header.signal, book, records, payload, reply)
 }

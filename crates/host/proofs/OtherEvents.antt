@@ -19,7 +19,7 @@ use Rattle.rules.proofs.RightBook.{entryRight, right-book}
 use Rattle.rules.proofs.Places.{find-known}
 use Rattle.rules.proofs.ShortReplies.{entry-at}
 use Rattle.rules.proofs.Unrefused.{none-refused}
-use Rattle.bridge.proofs.Refusing.{number-first}
+use Rattle.bridge_refusals.proofs.Refusing.{number-first}
 use Rattle.bridge.proofs.Happened.{event-refused}
 use Rattle.host.specs.Exports.{ours, eventOf}
 

@@ -17,10 +17,10 @@ use Rattle.book.specs.declared.places.Located.{Located}
 use Rattle.book.specs.declared.places.Located.the-variants.{Unknown, Known}
 use Rattle.saved.specs.Records.{configAt}
 use Rattle.saved.proofs.Configs.{size-short, config-part}
-use Rattle.bridge.proofs.Refusing.{Calm, calm}
-use Rattle.bridge.proofs.Asked.{refused-shown, missing-shown, there-shown, record-there, config-fits, offer-inside}
-use Rattle.bridge.proofs.Asked.{offer-shown}
-use Rattle.bridge.proofs.Asked.{config-shown}
+use Rattle.bridge_refusals.proofs.Refusing.{Calm, calm}
+use Rattle.bridge_questions.proofs.Asked.{refused-shown, missing-shown, there-shown, record-there, config-fits, offer-inside}
+use Rattle.bridge_questions.proofs.Asked.{offer-shown}
+use Rattle.bridge_questions.proofs.Asked.{config-shown}
 use Rattle.host.specs.Exports.{ours, nowhereBy, recordFrom, spanAt, spanCall, areaBy, shownBy, Stands}
 use Rattle.host.specs.declared.Span.{Span}
 

@@ -28,8 +28,8 @@ ours seid = record { 0 = seid }
 abbrev pub eventOf : ℕ → ℕ → Event
 eventOf which seid = getD (Up ∷ Down (ours seid) ∷ Lost ∷ []) which (Down (ours 0))
 
-abbrev pub Happens : List ℕ → List ℕ → ℕ → ℕ → ℕ → List ℕ → Type 0
-Happens book saved which seid number saved′ =
+abbrev pub HappensBy : List ℕ → List ℕ → ℕ → ℕ → ℕ → List ℕ → Type 0
+HappensBy book saved which seid number saved′ =
     _≡_ {A = Kept} (record { number = number; saved = saved′ }) (eventCall book saved (eventOf which seid))
 
 -- ---- settings: where the octets stand, and that they are those of the call

@@ -16,7 +16,7 @@ use rules::layout::RECORDS;
 ghost use mathlib.Core.Path.{_≡_};
 ghost use Rattle.rules.specs.Host.{checkCall, delayCall, packetsCall};
 ghost use Rattle.bridge.specs.Calls.{Freshens, Takes, Cuts};
-ghost use Rattle.host.specs.Exports.{ours, Happens, Stands, statusBy};
+ghost use Rattle.host.specs.Exports.{ours, HappensBy, Stands, statusBy};
 
 // Where an endpoint's settings stand: a number, the area (0 none, 1 the book, 2 the saved area), the place in it and the length.
 #[repr(C)]
@@ -62,7 +62,7 @@ pub extern "C" fn bawbeenor_packet(book: &[u8], size: usize, saved: &mut [u8], p
 // An event by its number: 0 the awaited channel is up, 1 the channel of `seid` is down, 2 the link is lost.
 #[no_mangle]
 pub extern "C" fn bawbeenor_event(book: &[u8], saved: &mut [u8], which: u8, seid: u8) -> u8
-    ensures { λ r. ⌜ Happens (now (book .entry)) (now (saved .entry)) which seid r (now (saved .exit)) ⌝ }
+    ensures { λ r. ⌜ HappensBy (now (book .entry)) (now (saved .entry)) which seid r (now (saved .exit)) ⌝ }
 {
     let event = events::event_of(which, seid);
     bridge::event(book, saved, event)

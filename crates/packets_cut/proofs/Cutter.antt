@@ -111,26 +111,27 @@ module _ {size : ℕ} {m : Message} {k total : ℕ} (n : Numbered size m k total
   not-long = le-ltb 512 (length (m .payload)) (n .short)
 
   module _ (area : List ℕ) where
-    pub label-large : 15 < m .label → cutRefusal size m k area ≡ 11
+    pub label-large : 15 < m .header .label → cutRefusal size m k area ≡ 11
     unfolding cutRefusal longest
-    label-large h = rw (n .right, low, not-long, le-ltb (m .label) 16 h)
+    label-large h = rw (n .right, low, not-long, le-ltb (m .header .label) 16 h)
 
-    pub type-large : m .label < 16 → 3 < m .mtype → cutRefusal size m k area ≡ 11
+    pub type-large : m .header .label < 16 → 3 < m .header .mtype → cutRefusal size m k area ≡ 11
     unfolding cutRefusal longest
-    type-large l h = rw (n .right, low, not-long, lt-ltb (m .label) 16 l, le-ltb (m .mtype) 4 h)
+    type-large l h = rw (n .right, low, not-long, lt-ltb (m .header .label) 16 l, le-ltb (m .header .mtype) 4 h)
 
-    pub signal-large : m .label < 16 → m .mtype < 4 → 63 < m .signal → cutRefusal size m k area ≡ 11
+    pub signal-large : m .header .label < 16 → m .header .mtype < 4 → 63 < m .header .signal → cutRefusal size m k area ≡ 11
     unfolding cutRefusal longest
     signal-large l t h =
-        rw (n .right, low, not-long, lt-ltb (m .label) 16 l, lt-ltb (m .mtype) 4 t, le-ltb (m .signal) 64 h)
+        rw (n .right, low, not-long, lt-ltb (m .header .label) 16 l, lt-ltb (m .header .mtype) 4 t,
+            le-ltb (m .header .signal) 64 h)
 
     -- the numbers have room, and only the area can still be too short
     room-test : HasRoom m
       → cutRefusal size m k area ≡ (if ltb (length area) (length (packetAt size m k)) then 9 else 0)
     unfolding cutRefusal longest
     room-test r =
-        rw (n .right, low, not-long, lt-ltb (m .label) 16 (r .label-small), lt-ltb (m .mtype) 4 (r .type-small),
-            lt-ltb (m .signal) 64 (r .signal-small))
+        rw (n .right, low, not-long, lt-ltb (m .header .label) 16 (r .label-small), lt-ltb (m .header .mtype) 4 (r .type-small),
+            lt-ltb (m .header .signal) 64 (r .signal-small))
 
     no-room : HasRoom m → length area < length (packetAt size m k) → cutRefusal size m k area ≡ 9
     no-room r short =

@@ -54,7 +54,7 @@ fn header_size(total: usize, index: usize) -> usize
 fn header(label: u8, mtype: u8, signal: u8, total: usize, index: usize) -> [u8; 3]
     requires { ⌜ label < 16 ⌝ ∗ ⌜ mtype < 4 ⌝ ∗ ⌜ index < total ⌝ ∗ ⌜ total ≤ 255 ⌝ }
     ensures { λ r. ⌜ ((p : List ℕ) → take (headerOf avdtp total index) r
-        ≡ headerFor (record { label = label; mtype = mtype; signal = signal; payload = p }) total index) ⌝ }
+        ≡ headerFor (record { header = record { label = label; mtype = mtype; signal = signal }; payload = p }) total index) ⌝ }
 {
     // octet 0 of a single, whose packet type is 0; the packet type counts by 4
     let single = label * 16 + mtype;
@@ -108,8 +108,9 @@ pub fn cut(
     area: &mut [u8],
 ) -> Piece
     ensures { λ r. ⌜ _≡_ {A = Cut} (record { piece = r; area = now (area .exit) })
-        (cutCall size (record { label = label; mtype = mtype; signal = signal; payload = now (payload .entry) }) index
-          (now (area .entry))) ⌝ }
+        (cutCall size
+          (record { header = record { label = label; mtype = mtype; signal = signal }; payload = now (payload .entry) })
+          index (now (area .entry))) ⌝ }
 {
     if size < 48 {
         return refused(8);

@@ -96,7 +96,7 @@ module _ {size : ℕ} {m : Message} (w : Whole size m) where
 
 -- the message is back
 pub record Back (m : Message) (e : Echoed) (message after : List ℕ) : Type 0 where
-  pub echoed : e ≡ record { done = true; label = m .label; mtype = m .mtype; signal = m .signal; length = length (m .payload) }
+  pub echoed : e ≡ record { done = true; header = m .header; length = length (m .payload) }
   pub written : after ≡ front (m .payload) message
 
 -- or packet number k is owed

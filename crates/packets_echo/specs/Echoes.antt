@@ -9,9 +9,8 @@ use Rattle.rules.specs.Packets.{Message}
 use Rattle.packets_echo.specs.declared.Echoed.{Echoed}
 
 unfoldable pub echoedOf : Option Message → Echoed
-echoedOf none = record { done = false; label = 0; mtype = 0; signal = 0; length = 0 }
-echoedOf (some m) =
-    record { done = true; label = m .label; mtype = m .mtype; signal = m .signal; length = length (m .payload) }
+echoedOf none = record { done = false; header = record { label = 0; mtype = 0; signal = 0 }; length = 0 }
+echoedOf (some m) = record { done = true; header = m .header; length = length (m .payload) }
 
 unfoldable pub payloadOn : Option Message → List ℕ → List ℕ
 payloadOn none area = area

@@ -1,5 +1,6 @@
 // The cutter and the gathering, one after the other as they run: what is cut reads back.
 use packets_gather::nexts::Next;
+use rules::Header;
 
 ghost use mathlib.Core.Path.{_≡_};
 ghost use mathlib.Core.Bool.{true, false};
@@ -11,23 +12,23 @@ ghost use Rattle.rules.specs.Saved.{gatheringIn, storeGathering};
 ghost use Rattle.packets_gather.specs.Rooms.{RoomRight};
 ghost use Rattle.packets_echo.specs.Echoes.{echoedOf, payloadOn};
 
-// Whether a message is complete, and then its numbers and the length of its payload.
+// Whether a message is complete, and then its header and the length of its payload.
 pub struct Echoed {
     pub done: bool,
-    pub label: u8,
-    pub mtype: u8,
-    pub signal: u8,
+    pub header: Header,
     pub length: usize,
 }
 
 fn nothing() -> Echoed
-    ensures { λ r. ⌜ r ≡ record { done = false; label = 0; mtype = 0; signal = 0; length = 0 } ⌝ }
+    ensures { λ r. ⌜ r ≡ record { done = false; header = record { label = 0; mtype = 0; signal = 0 }; length = 0 } ⌝ }
 {
     Echoed {
         done: false,
-        label: 0,
-        mtype: 0,
-        signal: 0,
+        header: Header {
+            label: 0,
+            mtype: 0,
+            signal: 0,
+        },
         length: 0,
     }
 }
@@ -43,24 +44,20 @@ fn receive(room: &mut [u8], size: usize, packet: &[u8], message: &mut [u8]) -> E
 {
     let then = packets_gather::gather(room, size, packet);
     match then {
-        Next::Single { label, mtype, signal } => {
+        Next::Single(header) => {
             let length = packet.len() - 2;
             octets::put(message, 0, octets::part(packet, 2, length));
             Echoed {
                 done: true,
-                label,
-                mtype,
-                signal,
+                header,
                 length,
             }
         }
-        Next::Complete { label, mtype, signal } => {
+        Next::Complete(header) => {
             let length = packets_gather::assemble(message, room, packet);
             Echoed {
                 done: true,
-                label,
-                mtype,
-                signal,
+                header,
                 length,
             }
         }
@@ -84,7 +81,11 @@ pub fn echo(
     requires { ⌜ length (now payload) ≤ 512 ⌝ }
     requires { ⌜ RoomRight (now room) ⌝ ∗ ⌜ 672 ≤ length (now area) ⌝ ∗ ⌜ 512 ≤ length (now message) ⌝ }
     ensures echoed { λ r. ⌜ r
-        ≡ record { done = true; label = label; mtype = mtype; signal = signal; length = length (now (payload .entry)) } ⌝ }
+        ≡ record {
+            done = true;
+            header = record { label = label; mtype = mtype; signal = signal };
+            length = length (now (payload .entry))
+          } ⌝ }
     ensures message { λ _. ⌜ now (message .exit) ≡ front (now (payload .entry)) (now (message .entry)) ⌝ }
 {
     let total = packets_cut::packets(size, payload.len());

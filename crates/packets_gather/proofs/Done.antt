@@ -13,6 +13,7 @@ use types.Run.{OneOf}
 use Rattle.rules.specs.Octets.{front}
 use Rattle.rules.specs.Packets.{Message, Gathering, extended, gather}
 use Rattle.rules.specs.Saved.{gatheringRoom, gatheringAt, gatheringIn, storeGathering, payloadLengthIn}
+use Rattle.rules.specs.declared.Header.{Header}
 use Rattle.packets_gather.specs.Nexts.{nextOf, doneBy}
 use Rattle.packets_gather.specs.declared.nexts.Next.{Next}
 use Rattle.packets_gather.specs.declared.nexts.Next.the-variants.{Ended, Single, Begun, Grown, Complete}
@@ -26,13 +27,13 @@ abbrev pub roomAfter : ℕ → List ℕ → List ℕ → List ℕ
 roomAfter size room p = storeGathering (gather size (gatheringIn room) p .gathering) room
 
 -- a message of several packets: what `assemble` asks of the room, and what its writing comes to
-pub record Assembled (l t n : ℕ) (p room : List ℕ) (done : Option Message) : Type 0 where
+pub record Assembled (h : Header) (p room : List ℕ) (done : Option Message) : Type 0 where
   pub long : length room ≡ gatheringRoom
   pub header : 1 ≤ length p
   pub gathered : payloadLengthIn room ≤ 512
   pub fits : length (gatheringAt room .message .payload) + length (drop 1 p) ≤ 512
   pub message :
-    done ≡ some (record { label = l; mtype = t; signal = n; payload = gatheringAt room .message .payload ++ drop 1 p })
+    done ≡ some (record { header = h; payload = gatheringAt room .message .payload ++ drop 1 p })
 
 -- what an end leaves of the room
 mark-gone : (room : List ℕ) → 1 ≤ length room → gatheringAt (front (0 ∷ []) room) ≡ gatheringAt room
@@ -49,45 +50,45 @@ module _ (size : ℕ) (room p : List ℕ) where
   tells-done : (r : Next) → RoomTells size room p r → gather size (gatheringIn room) p .done ≡ doneBy r (gatheringAt room) p
   unfolding doneBy
   tells-done Ended t = t .done
-  tells-done (Single l k n) t = t .done
+  tells-done (Single h) t = t .done
   tells-done Begun t = t .done
   tells-done Grown t = t .done
-  tells-done (Complete l k n) t = t .done
+  tells-done (Complete h) t = t .done
 
   -- the message is what the answer says, by what was gathered before the packet
   pub done-before : gather size (gatheringIn room) p .done ≡ doneBy (nextOf size (gatheringIn room) p) (gatheringAt room) p
   done-before = tells-done (nextOf size (gatheringIn room) p) (room-told size room p _ refl)
 
   module _ (right : RoomRight room) where
-    left : (l t n : ℕ) → RoomTells size room p (Complete l t n) → roomAfter size room p ≡ front (0 ∷ []) room
+    left : (h : Header) → RoomTells size room p (Complete h) → roomAfter size room p ≡ front (0 ∷ []) room
     unfolding storeGathering
-    left l t n told = ap (λ (g : Option Gathering). storeGathering g room) (told .gathering)
+    left h told = ap (λ (g : Option Gathering). storeGathering g room) (told .gathering)
 
-    gathered-kept : (l t n : ℕ) → RoomTells size room p (Complete l t n) → gatheringAt (roomAfter size room p) ≡ gatheringAt room
-    gathered-kept l t n told = ap gatheringAt (left l t n told) ∙ mark-gone room (omega (arith, right .long))
+    gathered-kept : (h : Header) → RoomTells size room p (Complete h) → gatheringAt (roomAfter size room p) ≡ gatheringAt room
+    gathered-kept h told = ap gatheringAt (left h told) ∙ mark-gone room (omega (arith, right .long))
 
     done-kept : (r : Next) → RoomTells size room p r
       → doneBy r (gatheringAt room) p ≡ doneBy r (gatheringAt (roomAfter size room p)) p
     unfolding doneBy
     done-kept Ended told = refl
-    done-kept (Single l t n) told = refl
+    done-kept (Single h) told = refl
     done-kept Begun told = refl
     done-kept Grown told = refl
-    done-kept (Complete l t n) told =
-        ap (λ (g : Gathering). some (extended (g .message) (drop 1 p))) (sym (gathered-kept l t n told))
+    done-kept (Complete h) told =
+        ap (λ (g : Gathering). some (extended (g .message) (drop 1 p))) (sym (gathered-kept h told))
 
     -- and by what is left in the room behind it
     pub done-after : gather size (gatheringIn room) p .done
       ≡ doneBy (nextOf size (gatheringIn room) p) (gatheringAt (roomAfter size room p)) p
     done-after = done-before ∙ done-kept (nextOf size (gatheringIn room) p) (room-told size room p _ refl)
 
-    pub assembled : (l t n : ℕ) → nextOf size (gatheringIn room) p ≡ Complete l t n
-      → Assembled l t n p (roomAfter size room p) (gather size (gatheringIn room) p .done)
+    pub assembled : (h : Header) → nextOf size (gatheringIn room) p ≡ Complete h
+      → Assembled h p (roomAfter size room p) (gather size (gatheringIn room) p .done)
     unfolding extended
-    assembled l t n e =
-        let told = room-told size room p (Complete l t n) e in
-        let kept = gathered-kept l t n told in
-        let count = ap payloadLengthIn (left l t n told) ∙ count-stays room (omega (arith, right .long)) in
+    assembled h e =
+        let told = room-told size room p (Complete h) e in
+        let kept = gathered-kept h told in
+        let count = ap payloadLengthIn (left h told) ∙ count-stays room (omega (arith, right .long)) in
         record {
           long = room-kept size room p right .long;
           header = told .header;
@@ -96,21 +97,16 @@ module _ (size : ℕ) (room p : List ℕ) where
           message =
             told .done
             ∙ (λ i.
-                some (record {
-                  label = told .label i;
-                  mtype = told .mtype i;
-                  signal = told .signal i;
-                  payload = sym kept i .message .payload ++ drop 1 p
-                }))
+                some (record { header = told .named i; payload = sym kept i .message .payload ++ drop 1 p }))
         }
 
 -- what is neither a message in one packet nor the last part of one completes none
 pub none-done : (size : ℕ) (room p : List ℕ) (r : Next) → OneOf (0 ∷ 2 ∷ 3 ∷ []) (tagOf the-type r) → RoomTells size room p r
   → gather size (gatheringIn room) p .done ≡ none
 none-done size room p Ended k t = t .done
-none-done size room p (Single l s n) k t =
+none-done size room p (Single h) k t =
     absurd (⊎-elim (eqb-false 1 0 refl) (⊎-elim (eqb-false 1 2 refl) (eqb-false 1 3 refl)) k)
 none-done size room p Begun k t = t .done
 none-done size room p Grown k t = t .done
-none-done size room p (Complete l s n) k t =
+none-done size room p (Complete h) k t =
     absurd (⊎-elim (eqb-false 4 0 refl) (⊎-elim (eqb-false 4 2 refl) (eqb-false 4 3 refl)) k)

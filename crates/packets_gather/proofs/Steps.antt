@@ -15,6 +15,7 @@ use Rattle.rules.specs.Packets.{readAs, read}
 use Rattle.rules.specs.Packets.{packetIn, Gathering, Step, ended, completes, gathers, extended, begin, isNext, joined, goesOn}
 use Rattle.rules.specs.Packets.{taken, gather, longest}
 use Rattle.rules.specs.Saved.{gatheringAt, gatheringIn}
+use Rattle.rules.specs.declared.Header.{Header}
 use Rattle.packets_gather.specs.Nexts.{nextFurther, nextBy, nextOf}
 use Rattle.packets_gather.specs.declared.nexts.Next.{Next}
 use Rattle.packets_gather.specs.declared.nexts.Next.the-variants.{Ended, Single, Begun, Grown, Complete}
@@ -28,11 +29,11 @@ pub record Ends (s : Step) : Type 0 where
   pub gathering : s .gathering ≡ none
   pub done : s .done ≡ none
 
-pub record Singles (l t n : ℕ) (p : List ℕ) (s : Step) : Type 0 where
+pub record Singles (h : Header) (p : List ℕ) (s : Step) : Type 0 where
   pub header : 2 ≤ length p
   pub fits : length (drop 2 p) ≤ 512
   pub gathering : s .gathering ≡ none
-  pub done : s .done ≡ some (record { label = l; mtype = t; signal = n; payload = drop 2 p })
+  pub done : s .done ≡ some (record { header = h; payload = drop 2 p })
 
 pub record Begins (p : List ℕ) (s : Step) : Type 0 where
   pub header : 3 ≤ length p
@@ -48,22 +49,20 @@ pub record Grows (b : Bool) (g : Gathering) (p : List ℕ) (s : Step) : Type 0 w
   pub gathering : s .gathering ≡ some (grown g p)
   pub done : s .done ≡ none
 
-pub record Completes (l t n : ℕ) (b : Bool) (g : Gathering) (p : List ℕ) (s : Step) : Type 0 where
+pub record Completes (h : Header) (b : Bool) (g : Gathering) (p : List ℕ) (s : Step) : Type 0 where
   pub there : b ≡ false
   pub header : 1 ≤ length p
   pub fits : length (g .message .payload) + length (drop 1 p) ≤ 512
-  pub label : g .message .label ≡ l
-  pub mtype : g .message .mtype ≡ t
-  pub signal : g .message .signal ≡ n
+  pub named : g .message .header ≡ h
   pub gathering : s .gathering ≡ none
   pub done : s .done ≡ some (extended (g .message) (drop 1 p))
 
 abbrev pub Tells : Next → Bool → Gathering → List ℕ → Step → Type 0
 Tells Ended b g p s = Ends s
-Tells (Single l t n) b g p s = Singles l t n p s
+Tells (Single h) b g p s = Singles h p s
 Tells Begun b g p s = Begins p s
 Tells Grown b g p s = Grows b g p s
-Tells (Complete l t n) b g p s = Completes l t n b g p s
+Tells (Complete h) b g p s = Completes h b g p s
 
 -- ---- Both by one test
 
@@ -78,17 +77,14 @@ ends = record { gathering = refl; done = refl }
 
 module _ (g : Gathering) (h : ℕ) (q : List ℕ) where
   joined-tells : (last : Bool) → isNext g last (labelIn h) (mtypeIn h) q ≡ true
-    → Tells (if last then Complete (g .message .label) (g .message .mtype) (g .message .signal) else Grown) false g (h ∷ q)
-        (joined g last q)
+    → Tells (if last then Complete (g .message .header) else Grown) false g (h ∷ q) (joined g last q)
   unfolding isNext joined completes gathers grown longest
   joined-tells true e =
       record {
         there = refl;
         header = omega arith;
         fits = leb-true (length (g .message .payload) + length q) 512 (search (and-l, and-r));
-        label = refl;
-        mtype = refl;
-        signal = refl;
+        named = refl;
         gathering = refl;
         done = refl
       }

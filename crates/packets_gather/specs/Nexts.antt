@@ -15,11 +15,11 @@ unfoldable pub nextFurther : Option Gathering → Bool → ℕ → ℕ → List 
 nextFurther none last label mtype p = Ended
 nextFurther (some g) last label mtype p =
     if isNext g last label mtype p
-    then (if last then Complete (g .message .label) (g .message .mtype) (g .message .signal) else Grown)
+    then (if last then Complete (g .message .header) else Grown)
     else Ended
 
 unfoldable pub nextBy : Option Gathering → Packet → Next
-nextBy g (single m) = if leb (length (m .payload)) longest then Single (m .label) (m .mtype) (m .signal) else Ended
+nextBy g (single m) = if leb (length (m .payload)) longest then Single (m .header) else Ended
 nextBy g (start n m) = if between 2 255 n && leb (length (m .payload)) longest then Begun else Ended
 nextBy g (further last label mtype p) = nextFurther g last label mtype p
 nextBy g wrong = Ended
@@ -30,7 +30,7 @@ nextOf size g p = nextBy g (packetIn size p)
 -- the message that is complete, whose payload is the packet's behind its header, or what was gathered and then the packet's
 unfoldable pub doneBy : Next → Gathering → List ℕ → Option Message
 doneBy Ended g p = none
-doneBy (Single l t s) g p = some (record { label = l; mtype = t; signal = s; payload = drop 2 p })
+doneBy (Single h) g p = some (record { header = h; payload = drop 2 p })
 doneBy Begun g p = none
 doneBy Grown g p = none
-doneBy (Complete l t s) g p = some (extended (g .message) (drop 1 p))
+doneBy (Complete h) g p = some (extended (g .message) (drop 1 p))

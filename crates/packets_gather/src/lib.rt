@@ -3,6 +3,7 @@
 pub mod nexts;
 
 use crate::nexts::Next;
+use rules::Header;
 use rules::layout::LABEL;
 use rules::layout::LENGTH_HIGH;
 use rules::layout::LENGTH_LOW;
@@ -47,11 +48,11 @@ fn single(packet: &[u8]) -> Next
     if 514 < packet.len() {
         return Next::Ended;
     }
-    Next::Single {
+    Next::Single(Header {
         label: packet[0] / 16,
         mtype: packet[0] % 4,
         signal: packet[1] % 64,
-    }
+    })
 }
 
 // What the first packet of several leads to, whatever is gathered.
@@ -96,11 +97,11 @@ fn further(room: &[u8], packet: &[u8], last: bool) -> Next
     let count = room[PACKETS] as usize;
     if last {
         if parts == count {
-            return Next::Complete {
+            return Next::Complete(Header {
                 label: room[LABEL],
                 mtype: room[MTYPE],
                 signal: room[SIGNAL],
-            };
+            });
         }
         return Next::Ended;
     }

@@ -9,7 +9,7 @@ use replay_input::Reader;
 use replay_input::fewer;
 use replay_input::next;
 use replay_script::lines;
-use replay_script::reading::LONG;
+use replay_reading::LONG;
 
 // A line that was read: a step, nothing, or too long.
 fn finish(k: usize, line: &[u8], length: usize, kept: Kept, book: &mut [u8], saved: &mut [u8]) -> Kept {

@@ -10,7 +10,7 @@ use crate::says::say;
 use crate::says::say_octets;
 use replay_script::lines::rest;
 use replay_script::numbers::wide;
-use replay_script::reading::DASH;
+use replay_script::numbers::DASH;
 use rules::layout::CHANNEL;
 use rules::layout::CONFIG_LENGTH;
 use rules::layout::COUNT;

@@ -47,8 +47,8 @@ allThere parted s zero = true
 allThere parted s (suc k) = isThere parted s k && allThere parted s k
 
 -- how many octets a text of at most 8,191 characters spells
-unfoldable pub countOf : Bool → List ℕ → ℕ
-countOf parted s = if ltb 8191 (length s) then none else if eqb (wholeOf parted (length s)) none then none
+unfoldable pub hexCount : Bool → List ℕ → ℕ
+hexCount parted s = if ltb 8191 (length s) then none else if eqb (wholeOf parted (length s)) none then none
     else if allThere parted s (wholeOf parted (length s)) then wholeOf parted (length s) else none
 
 -- the first k octets that a text spells

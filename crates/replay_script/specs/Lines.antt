@@ -32,8 +32,8 @@ unfoldable pub trimmed : List ℕ → List ℕ
 trimmed s = take (keptOf s - blanksOf s) (drop (blanksOf s) s)
 
 -- what stands before a comment (35), without the blanks at its ends
-unfoldable pub stepOf : List ℕ → List ℕ
-stepOf line = trimmed (take (firstOf 35 line) line)
+unfoldable pub stepIn : List ℕ → List ℕ
+stepIn line = trimmed (take (firstOf 35 line) line)
 
 -- what stands from a place on, up to the first c or to the end
 unfoldable pub partAt : ℕ → ℕ → List ℕ → List ℕ

@@ -16,8 +16,8 @@ namedOf name starts [] = 0
 namedOf name starts (x ∷ xs) =
     if starts && sameOctets (partAt 58 0 (x ∷ xs)) name then 0 else suc (namedOf name (eqb x 10) xs)
 
-unfoldable pub saidOf : List ℕ → List ℕ → List ℕ
-saidOf name table = drop (length name + 1) (partAt 10 (namedOf name true table) table)
+unfoldable pub wordSaid : List ℕ → List ℕ → List ℕ
+wordSaid name table = drop (length name + 1) (partAt 10 (namedOf name true table) table)
 
 -- the first octet, none where there is none
 unfoldable pub frontOf : List ℕ → ℕ
@@ -25,7 +25,7 @@ frontOf [] = none
 frontOf (x ∷ xs) = x
 
 unfoldable pub valueOf : List ℕ → List ℕ → ℕ
-valueOf name table = frontOf (saidOf name table)
+valueOf name table = frontOf (wordSaid name table)
 
 -- a table as it is written, line by line
 abbrev pub lineOf : String → List ℕ

@@ -1,7 +1,7 @@
 // Octets in hexadecimal, two digits each, of either case when they are read; parted by one blank each, or by nothing.
 ghost use mathlib.Core.Path.{_≡_};
 ghost use Prim.Native.Nat.{_≤_};
-ghost use Rattle.replay_script.specs.Hexes.{digitOf, spelled, octetAt, placeOf, isThere, wholeOf, countOf, readInto};
+ghost use Rattle.replay_script.specs.Hexes.{digitOf, spelled, octetAt, placeOf, isThere, wholeOf, hexCount, readInto};
 use crate::numbers::NONE;
 
 // The value of a digit; 16 where the octet is no digit.
@@ -112,7 +112,7 @@ fn whole(length: usize, parted: bool) -> usize
 
 // How many octets `s` spells; NONE where it is not all octets, or is longer than a line.
 pub fn count(s: &[u8], parted: bool) -> usize
-    ensures { λ r. ⌜ r ≡ countOf parted (now (s .entry)) ⌝ }
+    ensures { λ r. ⌜ r ≡ hexCount parted (now (s .entry)) ⌝ }
 {
     if 8191 < s.len() {
         return NONE;

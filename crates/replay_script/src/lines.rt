@@ -2,7 +2,7 @@
 // blank each; the place of a word is where it begins, and behind the last word it is the length of the step.
 ghost use mathlib.Core.Path.{_≡_};
 ghost use lib.ListN.{drop};
-ghost use Rattle.replay_script.specs.Lines.{firstOf, isBlank, blanksOf, keptOf, stepOf, partAt, wordAt, nextAt};
+ghost use Rattle.replay_script.specs.Lines.{firstOf, isBlank, blanksOf, keptOf, stepIn, partAt, wordAt, nextAt};
 
 // The place of the first `octet`, the length where there is none.
 pub fn first(s: &[u8], octet: u8) -> usize
@@ -63,7 +63,7 @@ fn kept(s: &[u8]) -> usize
 
 // The step of a line, empty where it has none.
 pub fn step(line: &[u8]) -> &[u8]
-    ensures { λ r. ⌜ now r ≡ stepOf (now (line .entry)) ⌝ }
+    ensures { λ r. ⌜ now r ≡ stepIn (now (line .entry)) ⌝ }
 {
     let end = first(line, 35);
     let text = &line[0..end];

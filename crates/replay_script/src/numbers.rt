@@ -6,6 +6,9 @@ ghost use Rattle.replay_script.specs.Numbers.{numberOf};
 // What stands for no number.
 pub const NONE: usize = 65536;
 
+// What a dash in the place of a number is read as.
+pub const DASH: usize = 65537;
+
 // The number that a word is; NONE where it is none, or above `most`.
 pub fn number(word: &[u8], most: u16) -> usize
     ensures { λ r. ⌜ r ≡ numberOf most (now (word .entry)) ⌝ }

@@ -1,7 +1,7 @@
 // A table is text in one piece: lines, each a name, a colon and what is said under that name.
 ghost use mathlib.Core.Path.{_≡_};
 ghost use mathlib.Core.Bool.{true};
-ghost use Rattle.replay_script.specs.Tables.{namedOf, saidOf, valueOf};
+ghost use Rattle.replay_script.specs.Tables.{namedOf, wordSaid, valueOf};
 use crate::lines::part;
 use crate::lines::rest;
 use crate::numbers::NONE;
@@ -27,7 +27,7 @@ fn named(table: &[u8], name: &[u8]) -> usize
 
 // What is said under a name; nothing where the table does not have it.
 pub fn said<'a>(table: &'a [u8], name: &[u8]) -> &'a [u8]
-    ensures { λ r. ⌜ now r ≡ saidOf (now (name .entry)) (now (table .entry)) ⌝ }
+    ensures { λ r. ⌜ now r ≡ wordSaid (now (name .entry)) (now (table .entry)) ⌝ }
 {
     let line = part(table, named(table, name), 10);
     rest(line, name.len() + 1)

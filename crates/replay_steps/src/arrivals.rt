@@ -9,7 +9,7 @@ use replay_answers::says::answer;
 use replay_answers::says::answer_with;
 use replay_script::lines::rest;
 use replay_script::numbers::wide;
-use replay_script::reading::FINE;
+use replay_reading::FINE;
 use replay_words::changes;
 use replay_words::notes;
 use replay_words::outcomes;

@@ -4,7 +4,7 @@ use replay_answers::says;
 use replay_answers::says::answer;
 use replay_answers::says::say;
 use replay_script::numbers::wide;
-use replay_script::reading::FINE;
+use replay_reading::FINE;
 use replay_words::changes;
 use replay_words::notes;
 use rules::Event;

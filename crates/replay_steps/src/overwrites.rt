@@ -3,8 +3,8 @@ use replay_answers::kept::Kept;
 use replay_answers::octs::lay;
 use replay_answers::octs::octet;
 use replay_answers::records;
-use replay_script::reading::FINE;
-use replay_script::reading::ODD;
+use replay_reading::FINE;
+use replay_reading::ODD;
 use rules::layout::COUNT;
 
 // record SEID STATE CHANNEL FAR DELAY CONFIG; not understood where no saved record has the SEID.

@@ -352,19 +352,21 @@ signal-forgoes (suc (suc (suc (suc (suc (suc (suc (suc (suc (suc (suc (suc zero)
 signal-forgoes (suc (suc (suc (suc (suc (suc (suc (suc (suc (suc (suc (suc (suc zero))))))))))))) p unused = clash refl unused
 signal-forgoes (suc (suc (suc (suc (suc (suc (suc (suc (suc (suc (suc (suc (suc (suc n)))))))))))))) p unused = refl
 
-pub message-forgoes : (m : Message) → m .mtype ≡ 0 → usesDelay m ≡ false → forgoes (signalOf (m .signal)) (m .payload) ≡ true
+pub message-forgoes : (m : Message) → m .header .mtype ≡ 0 → usesDelay m ≡ false
+    → forgoes (signalOf (m .header .signal)) (m .payload) ≡ true
 unfolding usesDelay
-message-forgoes m command unused = signal-forgoes (m .signal) (m .payload) (rw command at unused)
+message-forgoes m command unused = signal-forgoes (m .header .signal) (m .payload) (rw command at unused)
 
 pub answer-same : {book book′ : Book} (ends : Ends) (m : Message) → AlikeBooks book book′ → usesDelay m ≡ false
     → answer book ends m ≡ answer book′ ends m
 unfolding answer
-answer-same {book} {book′} ends m same unused = go (told (eqb (m .mtype) 0))
+answer-same {book} {book′} ends m same unused = go (told (eqb (m .header .mtype) 0))
   where
-    go : Told? (eqb (m .mtype) 0) → answer book ends m ≡ answer book′ ends m
+    go : Told? (eqb (m .header .mtype) 0) → answer book ends m ≡ answer book′ ends m
     go (passed command) =
         rw command
-          (obey-same (signalOf (m .signal)) ends (m .payload) same (message-forgoes m (eqb-true (m .mtype) 0 command) unused))
+          (obey-same (signalOf (m .header .signal)) ends (m .payload) same
+            (message-forgoes m (eqb-true (m .header .mtype) 0 command) unused))
     go (failed other) = rw other
 
 -- ---- Link events

@@ -188,5 +188,5 @@ module _ (book : Book) (ends : Ends) (h : LegalEnds book ends) where
   pub answer-legal : (m : Message) → LegalEnds book (answer book ends m .ends)
   unfolding answer
   answer-legal m =
-      if-arms (Leaves book) (eqb (m .mtype) 0) _ _ (λ t. obey-legal (signalOf (m .signal)) (m .payload))
+      if-arms (Leaves book) (eqb (m .header .mtype) 0) _ _ (λ t. obey-legal (signalOf (m .header .signal)) (m .payload))
         (λ f. same-legal book ends h _)

@@ -26,7 +26,7 @@ use Rattle.rules.specs.Host.{payloadOf, turnOf, takes, Answered, packetC
 use Rattle.rules.specs.Host.{settingsCall, heardAt, delayCall, packetsCall, Cut, cutRefusal, cutCall, standingAt}
 use Rattle.rules.specs.Host.{statusCall}
 use Rattle.rules.specs.Sessions.{Call, check, fresh, packet, event, settings, delay, packets, cut, number, told, shown}
-use Rattle.rules.specs.Sessions.{heard, cutOff, kept, answered, asked, call, answers, status, stands}
+use Rattle.rules.specs.Sessions.{heard, cutOff, keeping, answered, asked, call, answers, status, stands}
 use Rattle.rules.specs.Table.{traceBook}
 use Rattle.rules.specs.Listed.{numberIn, bookNumbers, refusals, refusedWith, Listed, refused, checked, begun, silent}
 use Rattle.rules.specs.Listed.{replied, happened, shows, hears, counts, cuts, EachListed, none as nothing, more, tells}
@@ -132,12 +132,12 @@ module _ (b saved : List ℕ) where
   check-listed (passed t) = rw (eqb-true (bookNumber b) 0 t) checked
   check-listed (failed f) = refused check (bookNumber b) (among-refused bookNumbers (bookNumber b) (book-number b) f)
 
-  fresh-listed : Listed saved fresh (kept (freshCall b saved))
-  unfolding freshCall kept refusals refusedWith member
+  fresh-listed : Listed saved fresh (keeping (freshCall b saved))
+  unfolding freshCall keeping refusals refusedWith member
   fresh-listed =
       let short = ltb (length saved) (areaFor (length (bookOf b))) in
       let n = numberOr (bookNumber b) (if short then 12 else 0) in
-      if-arms (λ (k : Kept). Listed saved fresh (kept k)) (eqb n 0) _ _ (λ t. begun _)
+      if-arms (λ (k : Kept). Listed saved fresh (keeping k)) (eqb n 0) _ _ (λ t. begun _)
         (λ f. refused fresh n
            (among-refused (bookNumbers ++ (12 ∷ [])) n
               (book-or (12 ∷ []) b _ (if-arms (Among (bookNumbers ++ (12 ∷ []))) short 12 0 (λ t. refl) (λ t. refl))) f))
@@ -150,11 +150,11 @@ module _ (saved : List ℕ) (size : ℕ) (p reply next : List ℕ) where
   unfolding toldOf payloadOf said between
   reply-listed m silence small short = rw nothing-written (silent size p reply next)
   reply-listed m generalReject small short =
-      replied size p reply next (m .label) 1 (m .signal) [] (small .label) refl (small .signal) short
+      replied size p reply next (m .header .label) 1 (m .header .signal) [] (small .label) refl (small .signal) short
   reply-listed m (accept q) small short =
-      replied size p reply next (m .label) 2 (m .signal) q (small .label) refl (small .signal) short
+      replied size p reply next (m .header .label) 2 (m .header .signal) q (small .label) refl (small .signal) short
   reply-listed m (reject q) small short =
-      replied size p reply next (m .label) 3 (m .signal) q (small .label) refl (small .signal) short
+      replied size p reply next (m .header .label) 3 (m .header .signal) q (small .label) refl (small .signal) short
 
   turn-listed : (book : Book) (ends : Ends) (g : Option Gathering) (done : Option Message)
       → ((m : Message) → done ≡ some m → Bounded m) → ((m : Message) → length (payloadOf (answer book ends m .reply)) ≤ 64)
@@ -217,14 +217,14 @@ event-among b saved Up = asked-among b saved
 event-among b saved (Down s) = asked-among b saved
 event-among b saved Lost = refusal-among b saved
 
-event-listed : (b saved : List ℕ) (e : Event) → Listed saved (event e) (kept (eventCall b saved e))
-unfolding eventCall kept refusedWith
+event-listed : (b saved : List ℕ) (e : Event) → Listed saved (event e) (keeping (eventCall b saved e))
+unfolding eventCall keeping refusedWith
 event-listed b saved e =
     let m = happens (bookOf b) (connectionIn (length (bookOf b)) saved) e in
     let n = numberOr (refusalOf b saved) (m .number) in
     let among =
           or-among (refusals (event e)) (refusalOf b saved) (m .number) (event-among b saved e) (happens-among (bookOf b) _ e) in
-    if-arms (λ (k : Kept). Listed saved (event e) (kept k)) (eqb n 0) _ _ (λ t. happened e _)
+    if-arms (λ (k : Kept). Listed saved (event e) (keeping k)) (eqb n 0) _ _ (λ t. happened e _)
       (λ f. refused (event e) n (among-refused (refusals (event e)) n among f))
 
 -- ---- settings and delay
@@ -303,9 +303,9 @@ cut-among size m k area =
     if-arms OfCut (not (sizeRight size)) 8 _ (λ t. refl) λ f.
     if-arms OfCut (not (ltb k (countOf size m))) 11 _ (λ t. refl) λ f.
     if-arms OfCut (ltb longest (length (m .payload))) 11 _ (λ t. refl) λ f.
-    if-arms OfCut (not (ltb (m .label) 16)) 11 _ (λ t. refl) λ f.
-    if-arms OfCut (not (ltb (m .mtype) 4)) 11 _ (λ t. refl) λ f.
-    if-arms OfCut (not (ltb (m .signal) 64)) 11 _ (λ t. refl) λ f.
+    if-arms OfCut (not (ltb (m .header .label) 16)) 11 _ (λ t. refl) λ f.
+    if-arms OfCut (not (ltb (m .header .mtype) 4)) 11 _ (λ t. refl) λ f.
+    if-arms OfCut (not (ltb (m .header .signal) 64)) 11 _ (λ t. refl) λ f.
     if-arms OfCut (ltb (length area) (length (packetAt size m k))) 9 0 (λ t. refl) λ f. refl
 
 cut-sized : (size : ℕ) (m : Message) (k : ℕ) (area : List ℕ) → cutRefusal size m k area ≡ 0 → sizeRight size ≡ true
@@ -366,7 +366,8 @@ pub numbers-given :
     ∷ numberOf traceBook freshArea (packet 47 discover (replicate 64 0))
     ∷ numberOf traceBook freshArea (packet 48 discover (replicate 63 0))
     ∷ numberOf traceBook freshArea (event Event.Up)
-    ∷ numberOf traceBook freshArea (cut 48 (record { label = 1; mtype = 2; signal = 1; payload = [] }) 1 (replicate 48 0))
+    ∷ numberOf traceBook freshArea
+        (cut 48 (record { header = record { label = 1; mtype = 2; signal = 1 }; payload = [] }) 1 (replicate 48 0))
     ∷ numberOf traceBook [] (packet 48 discover (replicate 64 0))
     ∷ []
   ≡ 1 ∷ 2 ∷ 3 ∷ 4 ∷ 5 ∷ 6 ∷ 7 ∷ 8 ∷ 9 ∷ 10 ∷ 11 ∷ 12 ∷ []

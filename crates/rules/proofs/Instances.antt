@@ -32,15 +32,20 @@ openAndIdle =
 
 -- a Start of both stops at the second
 pub start-of-both : Stopped Start Streaming (bookOf traceBook) openAndIdle (0x04 ∷ 0x14 ∷ [])
-  (answer (bookOf traceBook) openAndIdle (record { label = 8; mtype = 0; signal = 0x07; payload = 0x04 ∷ 0x14 ∷ [] }))
+  (answer (bookOf traceBook) openAndIdle
+    (record { header = record { label = 8; mtype = 0; signal = 0x07 }; payload = 0x04 ∷ 0x14 ∷ [] }))
 unfolding computed traceBook openAndIdle isAccept
 start-of-both = start-stops (bookOf traceBook) openAndIdle 8 0x04 (0x14 ∷ []) refl
 
 -- an Open of the second is rejected and moves none
 pub open-of-idle :
-  answer (bookOf traceBook) openAndIdle (record { label = 8; mtype = 0; signal = 0x06; payload = 0x14 ∷ [] }) .ends ≡ openAndIdle
+  answer (bookOf traceBook) openAndIdle
+    (record { header = record { label = 8; mtype = 0; signal = 0x06 }; payload = 0x14 ∷ [] }) .ends
+  ≡ openAndIdle
 unfolding computed traceBook openAndIdle isAccept shifts
-open-of-idle = unmoved (bookOf traceBook) openAndIdle (record { label = 8; mtype = 0; signal = 0x06; payload = 0x14 ∷ [] })
+open-of-idle =
+    unmoved (bookOf traceBook) openAndIdle
+      (record { header = record { label = 8; mtype = 0; signal = 0x06 }; payload = 0x14 ∷ [] })
     refl refl
 
 -- a packet size of 47 is refused with 8

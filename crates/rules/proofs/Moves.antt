@@ -226,14 +226,14 @@ module _ (book : Book) (ends : Ends) (p : List ℕ) where
 
 -- A Start or a Suspend that lists something and is not accepted is stopped at the first that failed.
 pub start-stops : (book : Book) (ends : Ends) (label o : ℕ) (os : List ℕ)
-  → let m : Message = record { label = label; mtype = 0; signal = 0x07; payload = o ∷ os } in
+  → let m : Message = record { header = record { label = label; mtype = 0; signal = 0x07 }; payload = o ∷ os } in
     isAccept (answer book ends m .reply) ≡ false → Stopped Start Streaming book ends (o ∷ os) (answer book ends m)
 unfolding answer obey signalOf shift lengthRight wrongState
 start-stops book ends label o os =
     rw (le-leb 1 (length (o ∷ os)) (omega arith)) (stops-first Start Streaming book (λ s. refl) ends (o ∷ os))
 
 pub suspend-stops : (book : Book) (ends : Ends) (label o : ℕ) (os : List ℕ)
-  → let m : Message = record { label = label; mtype = 0; signal = 0x09; payload = o ∷ os } in
+  → let m : Message = record { header = record { label = label; mtype = 0; signal = 0x09 }; payload = o ∷ os } in
     isAccept (answer book ends m .reply) ≡ false → Stopped Suspend Open book ends (o ∷ os) (answer book ends m)
 unfolding answer obey signalOf shift lengthRight wrongState
 suspend-stops book ends label o os =
@@ -241,12 +241,14 @@ suspend-stops book ends label o os =
 
 -- One that lists nothing is rejected with SEID 0 and moves none.
 pub start-of-none : (book : Book) (ends : Ends) (label : ℕ)
-  → answer book ends (record { label = label; mtype = 0; signal = 0x07; payload = [] }) ≡ stays ends (reject (0 ∷ 0x11 ∷ []))
+  → answer book ends (record { header = record { label = label; mtype = 0; signal = 0x07 }; payload = [] })
+    ≡ stays ends (reject (0 ∷ 0x11 ∷ []))
 unfolding answer obey signalOf shift lengthRight rejects
 start-of-none book ends label = refl
 
 pub suspend-of-none : (book : Book) (ends : Ends) (label : ℕ)
-  → answer book ends (record { label = label; mtype = 0; signal = 0x09; payload = [] }) ≡ stays ends (reject (0 ∷ 0x11 ∷ []))
+  → answer book ends (record { header = record { label = label; mtype = 0; signal = 0x09 }; payload = [] })
+    ≡ stays ends (reject (0 ∷ 0x11 ∷ []))
 unfolding answer obey signalOf shift lengthRight rejects
 suspend-of-none book ends label = refl
 
@@ -258,15 +260,15 @@ or-no-r : (a b : Bool) → a || b ≡ false → b ≡ false
 or-no-r true b e = clash refl e
 or-no-r false b e = e
 
-answer-stays : (book : Book) (ends : Ends) (m : Message) → shifts m ≡ false → Told? (eqb (m .mtype) 0)
+answer-stays : (book : Book) (ends : Ends) (m : Message) → shifts m ≡ false → Told? (eqb (m .header .mtype) 0)
   → Unmoved ends (answer book ends m)
 unfolding shifts answer
 answer-stays book ends m t (passed q) =
-    let s : eqb (m .signal) 0x07 || eqb (m .signal) 0x09 ≡ false = rw q at t in
-    rw q (of-signal book ends (m .payload) (m .signal) (or-no-l _ _ s) (or-no-r (eqb (m .signal) 0x07) _ s))
+    let s : eqb (m .header .signal) 0x07 || eqb (m .header .signal) 0x09 ≡ false = rw q at t in
+    rw q (of-signal book ends (m .payload) (m .header .signal) (or-no-l _ _ s) (or-no-r (eqb (m .header .signal) 0x07) _ s))
 answer-stays book ends m t (failed q) = rw q (by-staying ends silence)
 
 -- Any other command that is not accepted (a reject, a general reject, silence) and any message that is no command moves none.
 pub unmoved : (book : Book) (ends : Ends) (m : Message) → shifts m ≡ false → isAccept (answer book ends m .reply) ≡ false
   → answer book ends m .ends ≡ ends
-unmoved book ends m t e = answer-stays book ends m t (told (eqb (m .mtype) 0)) .stayed e
+unmoved book ends m t e = answer-stays book ends m t (told (eqb (m .header .mtype) 0)) .stayed e

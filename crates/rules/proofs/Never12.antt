@@ -21,7 +21,7 @@ use Rattle.rules.specs.Host
 use Rattle.rules.specs.Host.{checkCall, numberOr, savedNumber, refusalOf, packetRefusal, Kept, freshCall, nothingSaid}
 use Rattle.rules.specs.Host.{Answered, packetCall, eventCall, Shown, shownAt, settingsCall, heardAt, delayCall}
 use Rattle.rules.specs.Host.{Cut, cutRefusal, cutCall, standingAt, statusCall, nowhere, standing}
-use Rattle.rules.specs.Sessions.{Call, check, fresh, packet, event, settings, delay, packets, cut, kept, answered}
+use Rattle.rules.specs.Sessions.{Call, check, fresh, packet, event, settings, delay, packets, cut, keeping, answered}
 use Rattle.rules.specs.Sessions.{asked}
 use Rattle.rules.specs.Sessions.{call, answers, status}
 use Rattle.rules.specs.Listed.{numberIn, is12}
@@ -186,9 +186,9 @@ cut-refusal-small size m k area =
     if-arms UpTo11 (not (sizeRight size)) 8 _ (λ t. lit≤ tt) λ f.
     if-arms UpTo11 (not (ltb k (countOf size m))) 11 _ (λ t. lit≤ tt) λ f.
     if-arms UpTo11 (ltb longest (length (m .payload))) 11 _ (λ t. lit≤ tt) λ f.
-    if-arms UpTo11 (not (ltb (m .label) 16)) 11 _ (λ t. lit≤ tt) λ f.
-    if-arms UpTo11 (not (ltb (m .mtype) 4)) 11 _ (λ t. lit≤ tt) λ f.
-    if-arms UpTo11 (not (ltb (m .signal) 64)) 11 _ (λ t. lit≤ tt) λ f.
+    if-arms UpTo11 (not (ltb (m .header .label) 16)) 11 _ (λ t. lit≤ tt) λ f.
+    if-arms UpTo11 (not (ltb (m .header .mtype) 4)) 11 _ (λ t. lit≤ tt) λ f.
+    if-arms UpTo11 (not (ltb (m .header .signal) 64)) 11 _ (λ t. lit≤ tt) λ f.
     if-arms UpTo11 (ltb (length area) (length (packetAt size m k))) 9 0 (λ t. lit≤ tt) λ f. lit≤ tt
 
 cut-not-12 : (size : ℕ) (m : Message) (k : ℕ) (area : List ℕ) → Not12 (cutCall size m k area .piece .number)
@@ -201,7 +201,7 @@ cut-not-12 size m k area =
 -- ---- Every call, and every call of a sequence
 
 pub never-12 : (b saved : List ℕ) → savedRight (bookOf b) saved ≡ true → (c : Call) → numberIn (call b saved c .answer) ≡ 12 → ⊥
-unfolding call asked kept answered numberIn checkCall
+unfolding call asked keeping answered numberIn checkCall
 never-12 b saved h check = book-not-12 b
 never-12 b saved h fresh = fresh-not-12 b saved h
 never-12 b saved h (packet size p reply) = packet-not-12 b saved h size p reply

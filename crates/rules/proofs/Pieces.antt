@@ -153,7 +153,7 @@ module _ (h : Headers) (m : ℕ) (payload : List ℕ) where
 
 -- the message with p for its payload
 abbrev pub holding : Message → List ℕ → Message
-holding msg p = record { label = msg .label; mtype = msg .mtype; signal = msg .signal; payload = p }
+holding msg p = record { header = msg .header; payload = p }
 
 -- what packet number k is read as
 unfoldable pub asRead : Headers → ℕ → ℕ → Message → ℕ → Packet
@@ -161,7 +161,7 @@ asRead h m count msg zero =
     if eqb count 1 then single (holding msg (partOf h m count 0 (msg .payload)))
     else start count (holding msg (partOf h m count 0 (msg .payload)))
 asRead h m count msg (suc k) =
-    further (not (ltb (suc (suc k)) count)) (msg .label) (msg .mtype) (partOf h m count (suc k) (msg .payload))
+    further (not (ltb (suc (suc k)) count)) (msg .header .label) (msg .header .mtype) (partOf h m count (suc k) (msg .payload))
 
 -- the gathering after the first k packets
 abbrev pub soFar : Headers → ℕ → ℕ → Message → ℕ → Gathering
@@ -175,10 +175,11 @@ module _ (h : Headers) (m : ℕ) {count : ℕ} (msg : Message) (short : length (
       le-leb (length (partsBefore h m count k (msg .payload))) 512 (omega (arith, parts-short h m (msg .payload) k c b))
 
   is-next : (k : ℕ) (last : Bool) → (if last then eqb (suc (suc k)) count else ltb (suc (suc k)) count) ≡ true → suc k < count
-      → isNext (soFar h m count msg (suc k)) last (msg .label) (msg .mtype) (partOf h m count (suc k) (msg .payload)) ≡ true
+      → isNext (soFar h m count msg (suc k)) last (msg .header .label) (msg .header .mtype)
+          (partOf h m count (suc k) (msg .payload)) ≡ true
   unfolding isNext longest partsBefore
   is-next k last t b =
-      rw (eq-eqb (msg .label) (msg .label) refl, eq-eqb (msg .mtype) (msg .mtype) refl, t)
+      rw (eq-eqb (msg .header .label) (msg .header .label) refl, eq-eqb (msg .header .mtype) (msg .header .mtype) refl, t)
         (rw length-append at (within (suc (suc k)) b))
 
   pub takes-single : (g : Option Gathering) → count ≡ 1 → taken g (asRead h m count msg 0) ≡ completes msg

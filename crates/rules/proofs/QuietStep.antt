@@ -210,8 +210,9 @@ pub answer-quiet : (book : Book) (ends : Ends) (m : Message) → quietEnds ends 
     → quietEnds (answer book ends m .ends) ≡ true
 unfolding answer
 answer-quiet book ends m q unused =
-    if-arms Quiet (eqb (m .mtype) 0) _ _
-      (λ t. obey-quiet (signalOf (m .signal)) book ends (m .payload) q (message-forgoes m (eqb-true (m .mtype) 0 t) unused))
+    if-arms Quiet (eqb (m .header .mtype) 0) _ _
+      (λ t. obey-quiet (signalOf (m .header .signal)) book ends (m .payload) q
+        (message-forgoes m (eqb-true (m .header .mtype) 0 t) unused))
       (λ t. stays-quiet ends q _)
 
 -- ---- Link events

@@ -52,13 +52,15 @@ pub header-length : (m : Message) (count k : ℕ) → length (header m count k) 
 unfolding header headerOf
 header-length m count zero = go (eqb count 1)
   where
-    go : (b : Bool) → length (if b then firstOctet 0 m ∷ m .signal ∷ [] else firstOctet 1 m ∷ count ∷ m .signal ∷ [])
+    go : (b : Bool)
+      → length (if b then firstOctet 0 m ∷ m .header .signal ∷ [] else firstOctet 1 m ∷ count ∷ m .header .signal ∷ [])
         ≡ if b then 2 else 3
     go true = refl
     go false = refl
 header-length m count (suc k) = go (ltb (suc (suc k)) count)
   where
-    go : (b : Bool) → length (if b then firstOctet 2 m ∷ [] else firstOctet 3 m ∷ []) ≡ 1
+    go : (b : Bool)
+      → length (if b then firstOctet 2 m ∷ [] else firstOctet 3 m ∷ []) ≡ 1
     go true = refl
     go false = refl
 
@@ -81,16 +83,16 @@ packets-full size m k right b =
 
 -- the numbers that the headers have room for
 pub record HasRoom (m : Message) : Type 0 where
-  pub label-small : m .label < 16
-  pub type-small : m .mtype < 4
-  pub signal-small : m .signal < 64
+  pub label-small : m .header .label < 16
+  pub type-small : m .header .mtype < 4
+  pub signal-small : m .header .signal < 64
 
 module _ (m : Message) (r : HasRoom m) where
-  label-back : (t : ℕ) → t < 4 → labelIn (firstOctet t m) ≡ m .label
+  label-back : (t : ℕ) → t < 4 → labelIn (firstOctet t m) ≡ m .header .label
   unfolding labelIn firstOctet
   label-back t b = omega arith
 
-  mtype-back : (t : ℕ) → mtypeIn (firstOctet t m) ≡ m .mtype
+  mtype-back : (t : ℕ) → mtypeIn (firstOctet t m) ≡ m .header .mtype
   unfolding mtypeIn firstOctet
   mtype-back t = omega arith
 
@@ -102,20 +104,21 @@ module _ (m : Message) (r : HasRoom m) where
   unfolding packetTypeIn
   packet-type-back t b = rw packet-type-number
 
-  signal-back : signalIn (m .signal) ≡ m .signal
+  signal-back : signalIn (m .header .signal) ≡ m .header .signal
   unfolding signalIn
   signal-back = omega arith
 
   -- the first packet, as a single or not; and a further packet, as a continue or not
   read-first : (b : Bool) (n : ℕ) (p : List ℕ)
-      → read ((if b then firstOctet 0 m ∷ m .signal ∷ [] else firstOctet 1 m ∷ n ∷ m .signal ∷ []) ++ p)
+      → read ((if b then firstOctet 0 m ∷ m .header .signal ∷ [] else firstOctet 1 m ∷ n ∷ m .header .signal ∷ []) ++ p)
       ≡ if b then single (holding m p) else start n (holding m p)
   unfolding read readAs messageFrom
   read-first true n p = rw (packet-type-back 0 (lit< tt), label-back 0 (lit< tt), mtype-back 0, signal-back)
   read-first false n p = rw (packet-type-back 1 (lit< tt), label-back 1 (lit< tt), mtype-back 1, signal-back)
 
   read-further : (b : Bool) (p : List ℕ)
-      → read ((if b then firstOctet 2 m ∷ [] else firstOctet 3 m ∷ []) ++ p) ≡ further (not b) (m .label) (m .mtype) p
+      → read ((if b then firstOctet 2 m ∷ [] else firstOctet 3 m ∷ []) ++ p)
+        ≡ further (not b) (m .header .label) (m .header .mtype) p
   unfolding read readAs
   read-further true p = rw (packet-type-back 2 (lit< tt), label-back 2 (lit< tt), mtype-back 2)
   read-further false p = rw (packet-type-back 3 (lit< tt), label-back 3 (lit< tt), mtype-back 3)
@@ -154,7 +157,7 @@ module _ (size : ℕ) (m : Message) (right : sizeRight size ≡ true) (r : HasRo
         (rest-back n 0 (omega arith))
 
 pub reads-back : (size : ℕ) (m : Message) (g : Option Gathering) → sizeRight size ≡ true
-    → m .label < 16 → m .mtype < 4 → m .signal < 64 → length (m .payload) ≤ 512
+    → m .header .label < 16 → m .header .mtype < 4 → m .header .signal < 64 → length (m .payload) ≤ 512
     → gatherAll size g (cutUp size m) ≡ record { gathering = none; messages = m ∷ [] }
 unfolding cutUp
 reads-back size m g right l t s short =
@@ -163,10 +166,11 @@ reads-back size m g right l t s short =
 -- ---- The hypotheses can be met: three packets at size 48, with the largest numbers, after the start of another message
 
 abbrev pub sample : Message
-sample = record { label = 15; mtype = 3; signal = 63; payload = replicate 93 0xAB }
+sample = record { header = record { label = 15; mtype = 3; signal = 63 }; payload = replicate 93 0xAB }
 
 abbrev pub another : Gathering
-another = record { message = record { label = 1; mtype = 0; signal = 3; payload = 4 ∷ [] }; count = 3; parts = 1 }
+another =
+    record { message = record { header = record { label = 1; mtype = 0; signal = 3 }; payload = 4 ∷ [] }; count = 3; parts = 1 }
 
 pub sample-back : gatherAll 48 (some another) (cutUp 48 sample) ≡ record { gathering = none; messages = sample ∷ [] }
 unfolding sizeRight between

@@ -24,7 +24,7 @@ use Rattle.rules.proofs.Outcomes.{if-arms}
 -- ---- Messages as they are read
 
 unfoldable pub headRight : Message → Bool
-headRight m = ltb (m .label) 16 && ltb (m .mtype) 4 && ltb (m .signal) 64
+headRight m = ltb (m .header .label) 16 && ltb (m .header .mtype) 4 && ltb (m .header .signal) 64
 
 unfoldable pub messageRight : Message → Bool
 messageRight m = headRight m && leb (length (m .payload)) longest
@@ -80,9 +80,9 @@ gathers-right : (g : Gathering) → headRight (g .message) ≡ true → leb (len
     → between 2 255 (g .count) ≡ true → leb 1 (g .parts) ≡ true → ltb (g .parts) (g .count) ≡ true → RightStep (gathers g)
 unfolding gathers legalGathering doneRight gatheringRight headRight
 gathers-right g h l c s p =
-    let label : ltb (g .message .label) 16 ≡ true = search (and-l, and-r) in
-    let mtype : ltb (g .message .mtype) 4 ≡ true = search (and-l, and-r) in
-    let signal : ltb (g .message .signal) 64 ≡ true = search (and-l, and-r) in
+    let label : ltb (g .message .header .label) 16 ≡ true = search (and-l, and-r) in
+    let mtype : ltb (g .message .header .mtype) 4 ≡ true = search (and-l, and-r) in
+    let signal : ltb (g .message .header .signal) 64 ≡ true = search (and-l, and-r) in
     record { gathering = rw (l, c, s, p, label, mtype, signal); done = refl }
 
 -- what a gathering says of its message
@@ -90,9 +90,9 @@ module _ (g : Gathering) (h : gatheringRight g ≡ true) where
   gathered-head : headRight (g .message) ≡ true
   unfolding gatheringRight headRight
   gathered-head =
-      let label : ltb (g .message .label) 16 ≡ true = search (and-l, and-r) depth 7 in
-      let mtype : ltb (g .message .mtype) 4 ≡ true = search (and-l, and-r) depth 7 in
-      let signal : ltb (g .message .signal) 64 ≡ true = search (and-l, and-r) depth 7 in
+      let label : ltb (g .message .header .label) 16 ≡ true = search (and-l, and-r) depth 7 in
+      let mtype : ltb (g .message .header .mtype) 4 ≡ true = search (and-l, and-r) depth 7 in
+      let signal : ltb (g .message .header .signal) 64 ≡ true = search (and-l, and-r) depth 7 in
       rw (label, mtype, signal)
 
   gathered-count : between 2 255 (g .count) ≡ true
@@ -142,18 +142,18 @@ unfolding gather
 gather-right size g p h = taken-right g (packetIn size p) h (packet-right size p)
 
 pub record Bounded (m : Message) : Type 0 where
-  pub label : m .label < 16
-  pub mtype : m .mtype < 4
-  pub signal : m .signal < 64
+  pub label : m .header .label < 16
+  pub mtype : m .header .mtype < 4
+  pub signal : m .header .signal < 64
   pub payload : length (m .payload) ≤ longest
 
 bounded : (m : Message) → messageRight m ≡ true → Bounded m
 unfolding messageRight headRight
 bounded m h =
     record {
-      label = ltb-true (m .label) 16 (search (and-l, and-r));
-      mtype = ltb-true (m .mtype) 4 (search (and-l, and-r));
-      signal = ltb-true (m .signal) 64 (search (and-l, and-r));
+      label = ltb-true (m .header .label) 16 (search (and-l, and-r));
+      mtype = ltb-true (m .header .mtype) 4 (search (and-l, and-r));
+      signal = ltb-true (m .header .signal) 64 (search (and-l, and-r));
       payload = leb-true (length (m .payload)) longest (search (and-l, and-r))
     }
 

@@ -93,9 +93,7 @@ gathering-back (some g) r = λ i.
     some (record {
       message =
         record {
-          label = g .message .label;
-          mtype = g .message .mtype;
-          signal = g .message .signal;
+          header = g .message .header;
           payload =
             take-at (g .message .payload) (drop (length (gatheringHead g ++ g .message .payload)) r) _
               (sym (div-add-mod' (length (g .message .payload)) 256)) i

@@ -17,7 +17,7 @@ use Rattle.rules.specs.Saved.{areaFor, countIn, connectionIn, store, sav
 use Rattle.rules.specs.Host.{numberOr, refusalOf, packetRefusal, Kept, freshCall, Answered, packetCall, eventCall}
 use Rattle.rules.specs.Computed.{computed}
 use Rattle.rules.specs.Table.{traceBook}
-use Rattle.rules.specs.Sessions.{Call, check, fresh, packet, event, settings, delay, packets, cut, kept}
+use Rattle.rules.specs.Sessions.{Call, check, fresh, packet, event, settings, delay, packets, cut, keeping}
 use Rattle.rules.specs.Sessions.{answered, asked, call, after, status}
 use Rattle.rules.specs.declared.Event.{Event}
 use Rattle.rules.proofs.Tests.{and-l, and-r}
@@ -105,7 +105,7 @@ module _ (b saved : List ℕ) (right : bookNumber b ≡ 0) (h : savedRight (book
         (λ t. store-right _ (happens-legal (bookOf b) c (right-legal (bookOf b) saved h) e)) (λ f. h)
 
   pub stays-legal : (c : Call) → savedRight (bookOf b) (call b saved c .saved) ≡ true
-  unfolding call asked kept answered
+  unfolding call asked keeping answered
   stays-legal check = h
   stays-legal fresh = fresh-keeps
   stays-legal (packet size p reply) = packet-keeps size p reply

@@ -206,7 +206,8 @@ module _ (book : Book) (ends : Ends) (right : RightBook book) (h : legalEnds boo
   pub answer-short : (m : Message) → length (payloadOf (answer book ends m .reply)) ≤ 64
   unfolding answer
   answer-short m =
-      if-arms Short (eqb (m .mtype) 0) _ _ (λ t. obey-short (signalOf (m .signal)) (m .payload)) (λ f. silence-short ends)
+      if-arms Short (eqb (m .header .mtype) 0) _ _ (λ t. obey-short (signalOf (m .header .signal)) (m .payload))
+        (λ f. silence-short ends)
 
   turn-of-short : (g : Option Gathering) (done : Option Message) → length (turnOf book ends g done .payload) ≤ 64
   unfolding turnOf

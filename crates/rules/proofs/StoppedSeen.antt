@@ -55,12 +55,13 @@ module _ (book : Book) (ends : Ends) where
       subst (StopsBy p) (sym (eqb-true signal 0x09 (rw other at shift))) (stops-09 p lists)
 
   message-stops : (m : Message) → shifts m ≡ true → isEmpty (m .payload) ≡ false → isAccept (answer book ends m .reply) ≡ false
-      → Stopped (signalOf (m .signal)) (shiftsTo (m .signal)) book ends (m .payload) (answer book ends m)
+      → Stopped (signalOf (m .header .signal)) (shiftsTo (m .header .signal)) book ends (m .payload) (answer book ends m)
   unfolding shifts answer
   message-stops m shift lists e =
-      let command = and-l (eqb (m .mtype) 0) (eqb (m .signal) 0x07 || eqb (m .signal) 0x09) shift in
-      let signal = and-r (eqb (m .mtype) 0) (eqb (m .signal) 0x07 || eqb (m .signal) 0x09) shift in
-      rw command (stops-by (m .payload) (m .signal) lists signal (whether (eqb (m .signal) 0x07)) (rw command at e))
+      let command = and-l (eqb (m .header .mtype) 0) (eqb (m .header .signal) 0x07 || eqb (m .header .signal) 0x09) shift in
+      let signal = and-r (eqb (m .header .mtype) 0) (eqb (m .header .signal) 0x07 || eqb (m .header .signal) 0x09) shift in
+      rw command (stops-by (m .payload) (m .header .signal) lists signal (whether (eqb (m .header .signal) 0x07))
+        (rw command at e))
 
 -- its reject has two octets
 two-by : (signal what code : ℕ) → eqb signal 0x07 || eqb signal 0x09 ≡ true → Told? (eqb signal 0x07)
@@ -69,12 +70,13 @@ unfolding rejects signalOf
 two-by signal what code shift (passed is07) = rw (eqb-true signal 0x07 is07)
 two-by signal what code shift (failed other) = rw (eqb-true signal 0x09 (rw other at shift))
 
-two-octets : (m : Message) (what code : ℕ) → shifts m ≡ true → rejects (signalOf (m .signal)) what code
+two-octets : (m : Message) (what code : ℕ) → shifts m ≡ true → rejects (signalOf (m .header .signal)) what code
     ≡ reject (what ∷ code ∷ [])
 unfolding shifts
 two-octets m what code shift =
-    two-by (m .signal) what code (and-r (eqb (m .mtype) 0) (eqb (m .signal) 0x07 || eqb (m .signal) 0x09) shift)
-      (whether (eqb (m .signal) 0x07))
+    two-by (m .header .signal) what code
+      (and-r (eqb (m .header .mtype) 0) (eqb (m .header .signal) 0x07 || eqb (m .header .signal) 0x09) shift)
+      (whether (eqb (m .header .signal) 0x07))
 
 -- One that lists nothing is rejected with SEID 0 and moves none.
 module _ (book : Book) (ends : Ends) where
@@ -91,9 +93,9 @@ module _ (book : Book) (ends : Ends) where
   message-of-none : (m : Message) → shifts m ≡ true → m .payload ≡ [] → answer book ends m ≡ stays ends (reject (0 ∷ 0x11 ∷ []))
   unfolding shifts answer
   message-of-none m shift lists-none =
-      let command = and-l (eqb (m .mtype) 0) (eqb (m .signal) 0x07 || eqb (m .signal) 0x09) shift in
-      let signal = and-r (eqb (m .mtype) 0) (eqb (m .signal) 0x07 || eqb (m .signal) 0x09) shift in
-      rw (command, lists-none) (none-by (m .signal) signal (whether (eqb (m .signal) 0x07)))
+      let command = and-l (eqb (m .header .mtype) 0) (eqb (m .header .signal) 0x07 || eqb (m .header .signal) 0x09) shift in
+      let signal = and-r (eqb (m .header .mtype) 0) (eqb (m .header .signal) 0x07 || eqb (m .header .signal) 0x09) shift in
+      rw (command, lists-none) (none-by (m .header .signal) signal (whether (eqb (m .header .signal) 0x07)))
 
 -- ---- What a packet shows
 
@@ -209,7 +211,7 @@ unfolding openArea
 open-area-right = always-legal traceBook _ trace-book-right trace-area-right _
 
 abbrev pub startOfBoth : Message
-startOfBoth = record { label = 8; mtype = 0; signal = 0x07; payload = 0x04 ∷ 0x14 ∷ [] }
+startOfBoth = record { header = record { label = 8; mtype = 0; signal = 0x07 }; payload = 0x04 ∷ 0x14 ∷ [] }
 
 pub start-stopped :
   StoppedSeen (bookOf traceBook) (connectionIn (length (bookOf traceBook)) openArea .ends) replyArea startOfBoth

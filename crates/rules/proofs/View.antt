@@ -24,7 +24,7 @@ use Rattle.rules.specs.Host.{checkCall, numberOr, savedNumber, refusalOf
 use Rattle.rules.specs.Host.{takes, packetCall, eventCall, shownAt, settingsCall, heardAt, delayCall, statusCall}
 use Rattle.rules.specs.Host.{standingAt}
 use Rattle.rules.specs.Sessions.{Call, check, fresh, packet, event, settings, delay, packets, cut, number, told, shown}
-use Rattle.rules.specs.Sessions.{heard, Done, kept, answered, asked, call, status, stands}
+use Rattle.rules.specs.Sessions.{heard, Done, keeping, answered, asked, call, status, stands}
 use Rattle.rules.specs.Views.{packetNumber, says, goes, View, Stepped}
 use Rattle.rules.specs.Alike.{Begins, begun, lost}
 use Rattle.rules.specs.declared.OurSeid.{OurSeid}
@@ -85,9 +85,10 @@ module _ (b : List ℕ) (ok : bookNumber b ≡ 0) where
     step k d comes said next = record { answer = ap (λ (x : Done). x .answer) comes ∙ said; next = rw comes next }
 
     fresh-step : Stepped b s c fresh
-    unfolding call kept says goes
+    unfolding call keeping says goes
     fresh-step =
-        step fresh (kept (record { number = 0; saved = store (freshConnection (bookOf b)) s })) (ap kept (fresh-told s long)) refl
+        step fresh (keeping (record { number = 0; saved = store (freshConnection (bookOf b)) s }))
+          (ap keeping (fresh-told s long)) refl
           (stored-view (freshConnection (bookOf b)) s (fresh-legal (bookOf b)) long)
 
     packet-step : (size : ℕ) (p reply : List ℕ) → Told? (eqb (packetNumber size reply) 0) → Stepped b s c (packet size p reply)
@@ -103,14 +104,15 @@ module _ (b : List ℕ) (ok : bookNumber b ≡ 0) where
           (rw (packet-refusal size reply, refused)) (rw refused) (rw refused v)
 
     event-step : (e : Event) → Told? (eqb (happens (bookOf b) c e .number) 0) → Stepped b s c (event e)
-    unfolding call kept says goes eventCall numberOr
+    unfolding call keeping says goes eventCall numberOr
     event-step e (passed taken) =
         let m = happens (bookOf b) c e in
-        step (event e) (kept (record { number = 0; saved = store (m .connection) s })) (rw (v .shows, no-refusal, taken))
+        step (event e) (keeping (record { number = 0; saved = store (m .connection) s })) (rw (v .shows, no-refusal, taken))
           (ap number (sym (eqb-true (m .number) 0 taken)))
           (stored-view (m .connection) s (happens-legal (bookOf b) c lawful e) long)
     event-step e (failed refused) =
-        step (event e) (kept (record { number = happens (bookOf b) c e .number; saved = s })) (rw (v .shows, no-refusal, refused))
+        step (event e) (keeping (record { number = happens (bookOf b) c e .number; saved = s }))
+          (rw (v .shows, no-refusal, refused))
           refl (rw (happens-refused (bookOf b) c e refused) v)
 
     settings-step : (x : OurSeid) → Stepped b s c (settings x)
@@ -182,7 +184,7 @@ lost-right b area s ok e (failed wrong) =
     absurd (omega arith)
 
 pub begins-view : (b s : List ℕ) → bookNumber b ≡ 0 → Begins b s → View b s (freshConnection (bookOf b))
-unfolding call kept goes
+unfolding call keeping goes
 begins-view b s ok (begun area e) =
     let enough = begun-long b area s ok e (whether (ltb (length area) (areaFor (length (bookOf b))))) in
     subst (λ (x : List ℕ). View b x (freshConnection (bookOf b)))

@@ -37,8 +37,9 @@ alike (n ∷ book) (n′ ∷ book′) = alikeEntry n n′ && alike book book′
 
 unfoldable pub usesDelay : Message → Bool
 usesDelay m =
-    eqb (m .mtype) 0
-    && (eqb (m .signal) 0x0C || eqb (m .signal) 0x0D || (eqb (m .signal) 0x03 && has 8 (items (drop 2 (m .payload)))))
+    let signal = m .header .signal in
+    eqb (m .header .mtype) 0
+    && (eqb signal 0x0C || eqb signal 0x0D || (eqb signal 0x03 && has 8 (items (drop 2 (m .payload)))))
 
 unfoldable pub usesIn : Option Message → Bool
 usesIn none = false

@@ -306,4 +306,4 @@ obey Unassigned book ends p = stays ends generalReject
 -- A completed message that is not a command (message type 0) is silent.
 unfoldable pub answer : Book → Ends → Message → Outcome
 answer book ends m =
-    if eqb (m .mtype) 0 then obey (signalOf (m .signal)) book ends (m .payload) else stays ends silence
+    if eqb (m .header .mtype) 0 then obey (signalOf (m .header .signal)) book ends (m .payload) else stays ends silence

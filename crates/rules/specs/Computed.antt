@@ -36,7 +36,7 @@ use Rattle.rules.specs.Host.{checkCall, numberOr, savedNumber, refusalOf
 use Rattle.rules.specs.Host.{toldOf, payloadOf, turnOf, takes, packetCall, eventCall, settingsOf, shownAt, settingsCall}
 use Rattle.rules.specs.Host.{heard, heardAt, delayCall, standing, nowhere, standingAt, statusCall, packetsCall}
 use Rattle.rules.specs.Host.{cutRefusal, cutCall}
-use Rattle.rules.specs.Sessions.{kept as keptBy, answered, asked, call, answers, after}
+use Rattle.rules.specs.Sessions.{keeping, answered, asked, call, answers, after}
 
 unfoldable pub computed : Unit {0}
 unfolding between sameOctets member isEmpty some-of each-of front headed itemsPast element categoryOf lengthCode bitsWithin
@@ -54,5 +54,5 @@ unfolding between sameOctets member isEmpty some-of each-of front headed itemsPa
     named inUse discovered discover offersAt settled setAt configurationAt reconfigureAt openAt shiftOne shiftEach shift
     leaveAt securityAt delayAt obey answer checkCall numberOr savedNumber refusalOf packetRefusal freshCall nothingSaid
     said toldOf payloadOf turnOf takes packetCall eventCall settingsOf shownAt settingsCall heard heardAt delayCall
-    standing nowhere standingAt statusCall packetsCall cutRefusal cutCall keptBy answered asked call answers after
+    standing nowhere standingAt statusCall packetsCall cutRefusal cutCall keeping answered asked call answers after
 computed = tt

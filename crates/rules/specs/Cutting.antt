@@ -31,12 +31,12 @@ partOf h m count (suc k) payload = take (m - h .further) (drop (m - h .start + k
 
 -- octet 0 with packet type 0 single, 1 start, 2 continue, 3 end
 unfoldable pub firstOctet : ℕ → Message → ℕ
-firstOctet packetType m = m .label * 16 + packetType * 4 + m .mtype
+firstOctet packetType m = m .header .label * 16 + packetType * 4 + m .header .mtype
 
 unfoldable pub header : Message → ℕ → ℕ → List ℕ
 header m count zero =
-    if eqb count 1 then firstOctet 0 m ∷ m .signal ∷ []
-    else firstOctet 1 m ∷ count ∷ m .signal ∷ []
+    if eqb count 1 then firstOctet 0 m ∷ m .header .signal ∷ []
+    else firstOctet 1 m ∷ count ∷ m .header .signal ∷ []
 header m count (suc k) =
     if ltb (suc (suc k)) count then firstOctet 2 m ∷ []
     else firstOctet 3 m ∷ []

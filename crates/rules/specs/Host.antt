@@ -67,7 +67,7 @@ nothingSaid number = record { number = number; label = 0; mtype = 0; signal = 0;
 
 unfoldable pub said : Message → ℕ → List ℕ → Told
 said m mtype payload =
-    record { number = 0; label = m .label; mtype = mtype; signal = m .signal; length = lib.ListN.length payload }
+    record { number = 0; label = m .header .label; mtype = mtype; signal = m .header .signal; length = lib.ListN.length payload }
 
 -- message types: 1 general reject, 2 accept, 3 reject
 unfoldable pub toldOf : Message → Reply → Told
@@ -201,9 +201,9 @@ cutRefusal size m k area =
     if not (sizeRight size) then 8
     else if not (ltb k (countOf size m)) then 11
     else if ltb longest (lib.ListN.length (m .payload)) then 11
-    else if not (ltb (m .label) 16) then 11
-    else if not (ltb (m .mtype) 4) then 11
-    else if not (ltb (m .signal) 64) then 11
+    else if not (ltb (m .header .label) 16) then 11
+    else if not (ltb (m .header .mtype) 4) then 11
+    else if not (ltb (m .header .signal) 64) then 11
     else if ltb (lib.ListN.length area) (lib.ListN.length (packetAt size m k)) then 9
     else 0
 

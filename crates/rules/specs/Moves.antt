@@ -66,7 +66,7 @@ pub record Stopped (signal : Signal) (to : State) (book : Book) (ends : Ends) (p
 
 -- Start and Suspend
 unfoldable pub shifts : Message → Bool
-shifts m = eqb (m .mtype) 0 && (eqb (m .signal) 0x07 || eqb (m .signal) 0x09)
+shifts m = eqb (m .header .mtype) 0 && (eqb (m .header .signal) 0x07 || eqb (m .header .signal) 0x09)
 
 unfoldable pub shiftsIn : Option Message → Bool
 shiftsIn none = false
@@ -84,7 +84,7 @@ shiftsTo signal = if eqb signal 0x07 then Streaming else Open
 
 -- A reject of two octets, seen from outside: what is told of it, and what is at the front of the reply area.
 pub record RejectSeen (reply : List ℕ) (m : Message) (seid code : ℕ) (a : Answered) : Type 0 where
-  pub told : a .told ≡ record { number = 0; label = m .label; mtype = 3; signal = m .signal; length = 2 }
+  pub told : a .told ≡ record { number = 0; label = m .header .label; mtype = 3; signal = m .header .signal; length = 2 }
   pub written : a .reply ≡ front (seid * 4 ∷ code ∷ []) reply
 
 -- Stopped at the first that failed, seen from outside: the message m was completed on a saved area that showed `ends`; what it
@@ -94,8 +94,10 @@ pub record StoppedSeen (book : Book) (ends : Ends) (reply : List ℕ) (m : Messa
   pub failed : ℕ
   pub behind : List ℕ
   pub listed : m .payload ≡ before ++ failed ∷ behind
-  pub might : mayAll (signalOf (m .signal)) (shiftsTo (m .signal)) book ends before ≡ true
-  pub moved : connectionIn (length book) (a .saved) .ends ≡ movedAll (shiftsTo (m .signal)) book ends before
+  pub might : mayAll (signalOf (m .header .signal)) (shiftsTo (m .header .signal)) book ends before ≡ true
+  pub moved : connectionIn (length book) (a .saved) .ends ≡ movedAll (shiftsTo (m .header .signal)) book ends before
   pub mightNot :
-    mayOne (signalOf (m .signal)) (find (ourIn failed) book) (movedAll (shiftsTo (m .signal)) book ends before) ≡ false
+    mayOne (signalOf (m .header .signal)) (find (ourIn failed) book)
+      (movedAll (shiftsTo (m .header .signal)) book ends before)
+    ≡ false
   pub named : RejectSeen reply m (ourIn failed .0) (failCode (find (ourIn failed) book)) a

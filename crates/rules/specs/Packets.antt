@@ -6,6 +6,7 @@ use mathlib.Core.Option.{Option, none, some}
 use lib.ListN.{length, getD}
 use lib.Dec.{leb, ltb, eqb}
 use Rattle.rules.specs.Octets.{if_then_else_, between}
+use Rattle.rules.specs.declared.Header.{Header}
 
 -- The smallest and the largest packet size, and the longest payload of a message.
 unfoldable pub sizeRight : ℕ → Bool
@@ -14,11 +15,9 @@ sizeRight size = between 48 672 size
 unfoldable pub longest : ℕ
 longest = 512
 
--- A message: label, message type (0 command, 1 general reject, 2 accept, 3 reject), signal, payload.
+-- A message.
 pub record Message : Type 0 where
-  pub label : ℕ
-  pub mtype : ℕ
-  pub signal : ℕ
+  pub header : Header
   pub payload : List ℕ
 
 -- ---- Headers, as read: reserved bits are ignored (001, 8.4.1 to 8.4.6)
@@ -50,7 +49,8 @@ unfoldable pub packetTypeIn : ℕ → PacketType
 packetTypeIn h = getD (aSingle ∷ aStart ∷ aContinue ∷ anEnd ∷ []) (h / 4 % 4) aSingle
 
 unfoldable pub messageFrom : ℕ → ℕ → List ℕ → Message
-messageFrom h s payload = record { label = labelIn h; mtype = mtypeIn h; signal = signalIn s; payload = payload }
+messageFrom h s payload =
+    record { header = record { label = labelIn h; mtype = mtypeIn h; signal = signalIn s }; payload = payload }
 
 -- a single below 2 octets and a start below 3 are wrong
 unfoldable pub readAs : PacketType → ℕ → List ℕ → Packet
@@ -94,7 +94,7 @@ gathers g = record { gathering = some g; done = none }
 
 -- the message with a further part of its payload
 unfoldable pub extended : Message → List ℕ → Message
-extended m p = record { label = m .label; mtype = m .mtype; signal = m .signal; payload = m .payload ++ p }
+extended m p = record { header = m .header; payload = m .payload ++ p }
 
 unfoldable pub begin : ℕ → Message → Step
 begin n m =
@@ -106,7 +106,7 @@ begin n m =
 -- is, and no payload above the limit.
 unfoldable pub isNext : Gathering → Bool → ℕ → ℕ → List ℕ → Bool
 isNext g last label mtype p =
-    eqb label (g .message .label) && eqb mtype (g .message .mtype)
+    eqb label (g .message .header .label) && eqb mtype (g .message .header .mtype)
     && (if last then eqb (suc (g .parts)) (g .count) else ltb (suc (g .parts)) (g .count))
     && leb (length (g .message .payload) + length p) longest
 
@@ -133,4 +133,4 @@ gather size g p = taken g (packetIn size p)
 unfoldable pub gatheringRight : Gathering → Bool
 gatheringRight g =
     leb (length (g .message .payload)) longest && between 2 255 (g .count) && leb 1 (g .parts) && ltb (g .parts) (g .count)
-    && ltb (g .message .label) 16 && ltb (g .message .mtype) 4 && ltb (g .message .signal) 64
+    && ltb (g .message .header .label) 16 && ltb (g .message .header .mtype) 4 && ltb (g .message .header .signal) 64

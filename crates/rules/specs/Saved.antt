@@ -225,9 +225,8 @@ gatheringAt l =
     record {
       message =
         record {
-          label = getD l labelPlace 0;
-          mtype = getD l mtypePlace 0;
-          signal = getD l signalPlace 0;
+          header =
+            record { label = getD l labelPlace 0; mtype = getD l mtypePlace 0; signal = getD l signalPlace 0 };
           payload = take (payloadLengthIn l) (drop payloadPlace l)
         };
       count = getD l packetsPlace 0;
@@ -243,7 +242,7 @@ gatheringOctetsRight l =
 
 unfoldable pub gatheringHead : Gathering → List ℕ
 gatheringHead g =
-    1 ∷ g .message .label ∷ g .message .mtype ∷ g .message .signal ∷ g .count ∷ g .parts
+    1 ∷ g .message .header .label ∷ g .message .header .mtype ∷ g .message .header .signal ∷ g .count ∷ g .parts
     ∷ length (g .message .payload) / 256 ∷ length (g .message .payload) % 256 ∷ []
 
 unfoldable pub storeGathering : Option Gathering → List ℕ → List ℕ

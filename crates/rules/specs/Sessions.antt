@@ -41,8 +41,8 @@ pub record Done : Type 0 where
   pub answer : Answer
   pub saved : List ℕ
 
-unfoldable pub kept : Kept → Done
-kept k = record { answer = number (k .number); saved = k .saved }
+unfoldable pub keeping : Kept → Done
+keeping k = record { answer = number (k .number); saved = k .saved }
 
 unfoldable pub answered : Answered → Done
 answered a = record { answer = told (a .told) (a .reply); saved = a .saved }
@@ -52,9 +52,9 @@ asked saved a = record { answer = a; saved = saved }
 
 unfoldable pub call : List ℕ → List ℕ → Call → Done
 call book saved check = asked saved (number (checkCall book))
-call book saved fresh = kept (freshCall book saved)
+call book saved fresh = keeping (freshCall book saved)
 call book saved (packet size p reply) = answered (packetCall book size saved p reply)
-call book saved (event e) = kept (eventCall book saved e)
+call book saved (event e) = keeping (eventCall book saved e)
 call book saved (settings s) = asked saved (shown (settingsCall book saved s))
 call book saved (delay s) = asked saved (heard (delayCall book saved s))
 call book saved (status s) = asked saved (stands (statusCall book saved s))

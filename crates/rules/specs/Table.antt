@@ -41,9 +41,7 @@ outOf size a =
     else sent
       (cutUp size
          (record {
-            label = a .told .label;
-            mtype = a .told .mtype;
-            signal = a .told .signal;
+            header = record { label = a .told .label; mtype = a .told .mtype; signal = a .told .signal };
             payload = take (a .told .length) (a .reply)
           }))
 
@@ -123,7 +121,7 @@ traceTable =
 
 unfoldable pub cutLengths : ℕ → ℕ → List ℕ
 cutLengths size n =
-    map length (cutUp size (record { label = 1; mtype = 2; signal = 12; payload = replicate n 0xAB }))
+    map length (cutUp size (record { header = record { label = 1; mtype = 2; signal = 12 }; payload = replicate n 0xAB }))
 
 -- ---- The lecture hall: a delay of 3,500 tenths is reported, the endpoint is aborted, its channel goes down, and an old headset
 -- that never reports is configured on the same endpoint.

@@ -76,6 +76,13 @@ pub struct Fault {
     pub code: u8,
 }
 
+// The header of a message: its label, its message type (0 command, 1 general reject, 2 accept, 3 reject) and its signal.
+pub struct Header {
+    pub label: u8,
+    pub mtype: u8,
+    pub signal: u8,
+}
+
 // What the cutter tells: a number, and the length of the packet that was written.
 #[repr(C)]
 pub struct Piece {

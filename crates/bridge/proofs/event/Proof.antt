@@ -2,7 +2,7 @@
 use borrow.Author.Needs.{needs}
 use native.Mathlib.Omega.{arith}
 use mathlib.Core.Path.{refl}
-use Rattle.bridge.proofs.Refusing.{Calm, calm}
+use Rattle.bridge_refusals.proofs.Refusing.{Calm, calm}
 use Rattle.bridge.proofs.Happened.{event-refused, lent-held, up-happens, down-happens, lost-happens}
 use Rattle.bridge.proofs.event.Statement.{statement}
 use Rattle.bridge.proofs.event.Tie as tie

@@ -1,6 +1,6 @@
 -- `packet` meets its contract: refused with the number of the first test that fails, or taken.
 use borrow.Author.Needs.{needs}
-use Rattle.bridge.proofs.Refusing.{may-take, packet-refused, packet-taken}
+use Rattle.bridge.proofs.PacketTaken.{may-take, packet-refused, packet-taken}
 use Rattle.bridge.proofs.packet.Statement.{statement}
 use Rattle.bridge.proofs.packet.Tie as tie
 

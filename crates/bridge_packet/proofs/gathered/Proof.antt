@@ -4,7 +4,7 @@ use mathlib.Core.List.{List}
 use Prim.Native.Nat.{ℕ}
 use borrow.Author.Needs.{needs}
 use Rattle.rules.specs.Saved.{linkOf}
-use Rattle.bridge_packet.specs.Taken.{withLink, areaAfter}
+use Rattle.bridge_packet.specs.Taken.{withLink, gatheredArea}
 use Rattle.bridge_packet.proofs.Halves.{long-by-link, link-back}
 use Rattle.bridge_packet.proofs.gathered.Statement.{statement}
 use Rattle.bridge_packet.proofs.gathered.Tie as tie
@@ -28,7 +28,7 @@ same-length : tie.Need-same-length
 same-length c = search needs
 
 returns : tie.Need-returns
-unfolding areaAfter linkOf
+unfolding gatheredArea linkOf
 returns c =
     let called = c .before .before .gather in
     let args = c .before .before .before .before .before .before .args in

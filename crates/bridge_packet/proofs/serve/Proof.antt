@@ -32,8 +32,7 @@ returns : tie.Need-returns
 returns c =
     let called = c .before .before .before .before .before in
     let args = called .before .before .before .before .before .before .before .args in
-    as-served (args .book .now) (args .saved .now) (args .payload .now) (args .reply .now) (args .label) (args .mtype)
-        (args .signal) _ _ _ _
+    as-served (args .book .now) (args .saved .now) (args .payload .now) (args .reply .now) (args .header) _ _ _ _
       (called .answer .ensures) (c .tell .ensures)
 
 pub serve-spec : {M : Type 1} → statement M

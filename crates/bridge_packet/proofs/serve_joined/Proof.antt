@@ -8,7 +8,7 @@ use lib.Seq.{take-at}
 use Rattle.rules.specs.Octets.{front}
 use Rattle.rules.proofs.SavedReads.{front-length}
 use Rattle.saved.specs.Serves.{Serves}
-use Rattle.bridge_packet.specs.Taken.{joined, served}
+use Rattle.bridge_packet.specs.Taken.{joinedPayload, served}
 use Rattle.rules.specs.Saved.{gatheringRoom, recordsOf, pairIn, gatheringAt}
 use Rattle.bridge_packet.proofs.Halves.{link-whole}
 use borrow.Author.Needs.{needs}
@@ -33,15 +33,15 @@ abbrev whole : List ℕ → List ℕ → List ℕ
 whole link packet = gatheringAt link .message .payload ++ drop 1 packet
 
 same : (c : tie.After-assemble) → let args = entry c .args in
-  whole (c .before .link-of .result .now) (args .packet .now) ≡ joined (args .saved .now) (args .packet .now)
-unfolding joined
+  whole (c .before .link-of .result .now) (args .packet .now) ≡ joinedPayload (args .saved .now) (args .packet .now)
+unfolding joinedPayload
 same c = ap (λ (x : List ℕ). whole x (entry c .args .packet .now)) (c .before .link-of .ensures)
 
 short : (c : tie.After-assemble) → length (whole (c .before .link-of .result .now) (entry c .args .packet .now)) ≤ 512
 short c = omega (arith, ap length (same c), entry c .pre .serves .short)
 
 lent-at : (c : tie.After-assemble) → let args = entry c .args in
-  take (c .assemble .result - 0) (c .assemble .last .0) ≡ joined (args .saved .now) (args .packet .now)
+  take (c .assemble .result - 0) (c .assemble .last .0) ≡ joinedPayload (args .saved .now) (args .packet .now)
 lent-at c = lent _ _ _ _ (short c) (c .assemble .ensures .0) (c .assemble .ensures .1) ∙ same c
 
 slice-aggregate-assemble : tie.Need-slice-aggregate-assemble
@@ -98,7 +98,7 @@ returns c =
     served-by .serve .ensures
     ∙ ap
         (λ (x : List ℕ).
-          served (args .book .now) (record { label = args .label; mtype = args .mtype; signal = args .signal; payload = x })
+          served (args .book .now) (record { header = args .header; payload = x })
             (args .saved .now) (args .reply .now))
         (lent-at called)
 

@@ -49,8 +49,8 @@ sub-serve c =
     let saved = known-by called in
     let args = entry saved .args in
     single-header (args .book .now) (args .size) (args .saved .now) (args .packet .now) (args .reply .now) (entry saved .pre)
-        (known saved) _ _ _
-      (next called (Single _ _ _) (then .then .given .1))
+        (known saved) _
+      (next called (Single _) (then .then .given .1))
 
 part-serve-start : tie.Need-part-serve-start
 part-serve-start c =
@@ -59,8 +59,8 @@ part-serve-start c =
     let saved = known-by called in
     let args = entry saved .args in
     single-header (args .book .now) (args .size) (args .saved .now) (args .packet .now) (args .reply .now) (entry saved .pre)
-        (known saved) _ _ _
-      (next called (Single _ _ _) (then .then .given .1))
+        (known saved) _
+      (next called (Single _) (then .then .given .1))
 
 part-serve-end : tie.Need-part-serve-end
 part-serve-end c = search needs
@@ -72,8 +72,8 @@ serve-requires c κs =
     let saved = known-by called in
     let args = entry saved .args in
     single-serves (args .book .now) (args .size) (args .saved .now) (args .packet .now) (args .reply .now) (entry saved .pre)
-        (known saved) _ _ _ _
-      (called .gathered .ensures .1) _ (behind-whole 2 (args .packet .now)) (next called (Single _ _ _) (then .then .given .1))
+        (known saved) _ _
+      (called .gathered .ensures .1) _ (behind-whole 2 (args .packet .now)) (next called (Single _) (then .then .given .1))
 
 enum-known-then-2 : tie.Need-enum-known-then-2
 enum-known-then-2 c = search needs
@@ -85,8 +85,8 @@ serve-joined-requires c κs =
     let saved = known-by called in
     let args = entry saved .args in
     joined-serves (args .book .now) (args .size) (args .saved .now) (args .packet .now) (args .reply .now) (entry saved .pre)
-        (known saved) _ _ _ _
-      (called .gathered .ensures .1) (next called (Complete _ _ _) (then .then2 .given .1))
+        (known saved) _ _
+      (called .gathered .ensures .1) (next called (Complete _) (then .then2 .given .1))
 
 nothing-requires : tie.Need-nothing-requires
 nothing-requires c κs = search needs
@@ -105,8 +105,8 @@ returns c =
     let saved = known-by called in
     let args = entry saved .args in
     single-done (args .book .now) (args .size) (args .saved .now) (args .packet .now) (args .reply .now) (entry saved .pre)
-        (known saved) _ _ _ _
-      (called .gathered .ensures .1) _ (behind-whole 2 (args .packet .now)) (next called (Single _ _ _) (then .then .given .1)) _
+        (known saved) _ _
+      (called .gathered .ensures .1) _ (behind-whole 2 (args .packet .now)) (next called (Single _) (then .then .given .1)) _
       (answered .serve .ensures)
 
 same-length-3 : tie.Need-same-length-3
@@ -123,8 +123,8 @@ returns-2 c =
     let saved = known-by called in
     let args = entry saved .args in
     joined-done (args .book .now) (args .size) (args .saved .now) (args .packet .now) (args .reply .now) (entry saved .pre)
-        (known saved) _ _ _ _
-      (called .gathered .ensures .1) _ (next called (Complete _ _ _) (then .then2 .given .1)) (answered .serve-joined .ensures)
+        (known saved) _ _
+      (called .gathered .ensures .1) _ (next called (Complete _) (then .then2 .given .1)) (answered .serve-joined .ensures)
 
 same-length-5 : tie.Need-same-length-5
 same-length-5 c = search needs

@@ -9,8 +9,8 @@ silent-requires c κs = search needs
 
 returns : tie.Need-returns
 returns c =
-    let start = c .before .before .before .before .before .before in
-    no-command (start .pre) (start .args .mtype) (start .args .signal) (c .before .if1 .taken) (c .silent .ensures)
+    let start = c .before .before .before .before .before .before .before in
+    no-command (start .pre) (start .args .header) (c .before .if1 .taken) (c .silent .ensures)
 
 obey-requires : tie.Need-obey-requires
 obey-requires c κs = search needs
@@ -25,8 +25,8 @@ returns-2 : tie.Need-returns-2
 returns-2 c =
     let called = c .before .before .before .before in
     let other = called .before .before .before in
-    let args = other .before .before .before .before .before .args in
-    a-command (args .book .now) (args .records .now) (args .payload .now) (args .reply .now) (args .mtype) (args .signal)
+    let args = other .before .before .before .before .before .before .args in
+    a-command (args .book .now) (args .records .now) (args .payload .now) (args .reply .now) (args .header)
       (other .if1 .left) (called .obey .ensures)
 
 pub answer-spec : {M : Type 1} → statement M

@@ -6,7 +6,7 @@ use mathlib.Core.Path.{sym, _∙_}
 use Prim.Native.Nat.{_+_, _≤_}
 use lib.ListN.{length}
 use Rattle.rules.specs.Saved.{recordRoom}
-use Rattle.bridge.proofs.Refusing.{Calm}
+use Rattle.bridge_refusals.proofs.Refusing.{Calm}
 use Rattle.host.specs.Exports.{recordFrom}
 use Rattle.host.proofs.SettingsStand.{told-none, told-some, missing, record-inside, offer-stands, stored-stands}
 use Rattle.host.proofs.bawbeenor_settings.Statement.{statement}

@@ -22,7 +22,10 @@ use Rattle.packets_cut.proofs.cut.Tie as tie
 
 abbrev message : tie.Start → Message
 message s =
-    record { label = s .args .label; mtype = s .args .mtype; signal = s .args .signal; payload = s .args .payload .now }
+    record {
+      header = record { label = s .args .label; mtype = s .args .mtype; signal = s .args .signal };
+      payload = s .args .payload .now
+    }
 
 tells : (s : tie.Start) (p : Piece) (n : ℕ) → p ≡ record { number = n; length = 0 } → eqb n 0 ≡ false
   → cutRefusal (s .args .size) (message s) (s .args .index) (s .args .area .now) ≡ n

@@ -13,41 +13,42 @@ use Rattle.packets_cut.proofs.header.Statement.{statement}
 use Rattle.packets_cut.proofs.header.Tie as tie
 
 module _ (m : Message) where
-  first-octet : (mtype : ℕ) → m .label * 16 + m .mtype + mtype * 4 ≡ firstOctet mtype m
+  first-octet : (mtype : ℕ) → m .header .label * 16 + m .header .mtype + mtype * 4 ≡ firstOctet mtype m
   unfolding firstOctet
   first-octet mtype = omega arith
 
-  single-octet : m .label * 16 + m .mtype ≡ firstOctet 0 m
+  single-octet : m .header .label * 16 + m .header .mtype ≡ firstOctet 0 m
   unfolding firstOctet
   single-octet = omega arith
 
   continues : (total k : ℕ) → (k ≡ 0 → ⊥) → k + 1 < total
-    → take (headerOf avdtp total k) ((m .label * 16 + m .mtype + 8) ∷ 0 ∷ 0 ∷ []) ≡ header m total k
+    → take (headerOf avdtp total k) ((m .header .label * 16 + m .header .mtype + 8) ∷ 0 ∷ 0 ∷ []) ≡ header m total k
   unfolding header headerOf
   continues total zero h b = absurd (h refl)
   continues total (suc k) h b =
       rw (lt-ltb (suc (suc k)) total (omega arith)) (ap (λ (x : ℕ). x ∷ []) (first-octet 2))
 
   ends : (total k : ℕ) → (k ≡ 0 → ⊥) → total ≤ k + 1
-    → take (headerOf avdtp total k) ((m .label * 16 + m .mtype + 12) ∷ 0 ∷ 0 ∷ []) ≡ header m total k
+    → take (headerOf avdtp total k) ((m .header .label * 16 + m .header .mtype + 12) ∷ 0 ∷ 0 ∷ []) ≡ header m total k
   unfolding header headerOf
   ends total zero h b = absurd (h refl)
   ends total (suc k) h b =
       rw (le-ltb (suc (suc k)) total (omega arith)) (ap (λ (x : ℕ). x ∷ []) (first-octet 3))
 
   single : (total k : ℕ) → k ≡ 0 → total ≡ 1
-    → take (headerOf avdtp total k) ((m .label * 16 + m .mtype) ∷ m .signal ∷ 0 ∷ []) ≡ header m total k
+    → take (headerOf avdtp total k) ((m .header .label * 16 + m .header .mtype) ∷ m .header .signal ∷ 0 ∷ []) ≡ header m total k
   unfolding header headerOf
-  single total k z e = rw (z, eq-eqb total 1 e) (ap (λ (x : ℕ). x ∷ m .signal ∷ []) single-octet)
+  single total k z e = rw (z, eq-eqb total 1 e) (ap (λ (x : ℕ). x ∷ m .header .signal ∷ []) single-octet)
 
   starts : (total k : ℕ) → k ≡ 0 → (total ≡ 1 → ⊥)
-    → take (headerOf avdtp total k) ((m .label * 16 + m .mtype + 4) ∷ total ∷ m .signal ∷ []) ≡ header m total k
+    → take (headerOf avdtp total k) ((m .header .label * 16 + m .header .mtype + 4) ∷ total ∷ m .header .signal ∷ [])
+      ≡ header m total k
   unfolding header headerOf
-  starts total k z h = rw (z, ne-eqb total 1 h) (ap (λ (x : ℕ). x ∷ total ∷ m .signal ∷ []) (first-octet 1))
+  starts total k z h = rw (z, ne-eqb total 1 h) (ap (λ (x : ℕ). x ∷ total ∷ m .header .signal ∷ []) (first-octet 1))
 
 -- the message with the numbers that came in and any payload
 abbrev message : tie.Start → List ℕ → Message
-message s p = record { label = s .args .label; mtype = s .args .mtype; signal = s .args .signal; payload = p }
+message s p = record { header = record { label = s .args .label; mtype = s .args .mtype; signal = s .args .signal }; payload = p }
 
 mul-single : tie.Need-mul-single
 mul-single c = search needs

@@ -18,7 +18,8 @@ use Rattle.packets_echo.proofs.echo.Statement.{statement}
 use Rattle.packets_echo.proofs.echo.Tie as tie
 
 abbrev message-of : ℕ → ℕ → ℕ → List ℕ → Message
-message-of label mtype signal payload = record { label = label; mtype = mtype; signal = signal; payload = payload }
+message-of label mtype signal payload =
+    record { header = record { label = label; mtype = mtype; signal = signal }; payload = payload }
 
 abbrev Inv-loop : tie.InvT-loop
 Inv-loop size label mtype signal payload room₀ area₀ message₀ total index₀ room area message index =

@@ -10,6 +10,7 @@ use borrow.Author.Needs.{needs}
 use Rattle.rules.specs.Octets.{front}
 use Rattle.rules.specs.Packets.{Message, Step, gather}
 use Rattle.rules.specs.Saved.{gatheringIn, gatheringAt}
+use Rattle.rules.specs.declared.Header.{Header}
 use Rattle.packets_gather.specs.Nexts.{nextOf}
 use Rattle.packets_gather.specs.declared.nexts.Next.{Next}
 use Rattle.packets_gather.specs.declared.nexts.Next.the-variants.{Single, Complete}
@@ -31,34 +32,35 @@ single-part : (p q : List ℕ) → q ≡ part 2 (length p - 2) p → q ≡ drop 
 unfolding part
 single-part p q e = e ∙ behind 2 p
 
-module _ (l t n : ℕ) (p : List ℕ) (done : Option Message) where
-  single-echoed : done ≡ some (record { label = l; mtype = t; signal = n; payload = drop 2 p })
-    → record { done = true; label = l; mtype = t; signal = n; length = length p - 2 } ≡ echoedOf done
+module _ (h : Header) (p : List ℕ) (done : Option Message) where
+  single-echoed : done ≡ some (record { header = h; payload = drop 2 p })
+    → record { done = true; header = h; length = length p - 2 } ≡ echoedOf done
   unfolding echoedOf
   single-echoed e = rw (e, length-drop)
 
-  single-written : (q a message : List ℕ) → done ≡ some (record { label = l; mtype = t; signal = n; payload = drop 2 p })
+  single-written : (q a message : List ℕ) → done ≡ some (record { header = h; payload = drop 2 p })
     → q ≡ part 2 (length p - 2) p → a ≡ patch 0 q message → a ≡ payloadOn done message
   unfolding payloadOn
   single-written q a message e f g =
       g ∙ sym (front-patch q message) ∙ rw (e, single-part p q f)
 
-  several-echoed : (room : List ℕ) (r : ℕ) → Assembled l t n p room done
+  several-echoed : (room : List ℕ) (r : ℕ) → Assembled h p room done
     → r ≡ length (gatheringAt room .message .payload ++ drop 1 p)
-    → record { done = true; label = l; mtype = t; signal = n; length = r } ≡ echoedOf done
+    → record { done = true; header = h; length = r } ≡ echoedOf done
   unfolding echoedOf
   several-echoed room r a e = rw (a .message, e)
 
-  several-written : (room b message : List ℕ) → Assembled l t n p room done
+  several-written : (room b message : List ℕ) → Assembled h p room done
     → b ≡ front (gatheringAt room .message .payload ++ drop 1 p) message → b ≡ payloadOn done message
   unfolding payloadOn
   several-written room b message a e = rw (a .message) e
 
-assembled-left : (size : ℕ) (room left p : List ℕ) → RoomRight room → left ≡ roomAfter size room p → (l t n : ℕ)
-  → nextOf size (gatheringIn room) p ≡ Complete l t n → Assembled l t n p left (gather size (gatheringIn room) p .done)
-assembled-left size room left p right e l t n f = rw e (assembled size room p right l t n f)
+assembled-left : (size : ℕ) (room left p : List ℕ) → RoomRight room → left ≡ roomAfter size room p → (h : Header)
+  → nextOf size (gatheringIn room) p ≡ Complete h → Assembled h p left (gather size (gatheringIn room) p .done)
+assembled-left size room left p right e h f = rw e (assembled size room p right h f)
 
-none-echoed : (e : Echoed) (done : Option Message) → e ≡ record { done = false; label = 0; mtype = 0; signal = 0; length = 0 }
+none-echoed : (e : Echoed) (done : Option Message)
+  → e ≡ record { done = false; header = record { label = 0; mtype = 0; signal = 0 }; length = 0 }
   → done ≡ none → e ≡ echoedOf done
 unfolding echoedOf
 none-echoed e done f g = rw g f
@@ -88,17 +90,16 @@ abbrev single-call : tie.After-then → tie.After-gather
 single-call c = c .before .before .before .before
 
 single-at : (c : tie.After-then)
-  → Singles (c .then .given .0 .0) (c .then .given .0 .1 .0) (c .then .given .0 .1 .1 .0)
-      (start (single-call c) .args .packet .now) (step-of (single-call c))
-single-at c = told (single-call c) (Single _ _ _) (c .then .given .1)
+  → Singles (c .then .given .0 .0) (start (single-call c) .args .packet .now) (step-of (single-call c))
+single-at c = told (single-call c) (Single _) (c .then .given .1)
 
 -- and of one in several
-assembled-at : (c : tie.After-gather) (l t n : ℕ) → c .gather .result ≡ Complete l t n
-  → Assembled l t n (start c .args .packet .now) (c .gather .last .0) (done-of c)
-assembled-at c l t n e =
+assembled-at : (c : tie.After-gather) (h : Header) → c .gather .result ≡ Complete h
+  → Assembled h (start c .args .packet .now) (c .gather .last .0) (done-of c)
+assembled-at c h e =
     let args = start c .args in
     assembled-left (args .size) (args .room .now) (c .gather .last .0) (args .packet .now) (start c .pre .0)
-      (c .gather .ensures .1) l t n (sym (c .gather .ensures .0) ∙ e)
+      (c .gather .ensures .1) h (sym (c .gather .ensures .0) ∙ e)
 
 -- ---- The needs
 
@@ -128,7 +129,7 @@ assemble-requires : tie.Need-assemble-requires
 assemble-requires c κs =
     let arm = c .before .before .before in
     let called = arm .before .before .before .before in
-    let a = assembled-at called _ _ _ (arm .then2 .given .1) in
+    let a = assembled-at called _ (arm .then2 .given .1) in
     (a .long, (a .header, (a .gathered, omega (arith, a .fits, start called .pre .1))))
 
 nothing-requires : tie.Need-nothing-requires
@@ -147,9 +148,9 @@ returns c =
     let called = single-call arm in
     let p = start called .args .packet .now in
     let m = single-at arm .done in
-    ( single-echoed _ _ _ p (done-of called) m,
+    ( single-echoed _ p (done-of called) m,
       (called .gather .ensures .1,
-       single-written _ _ _ p (done-of called) (put .before .part .result .now) (put .put .last .0)
+       single-written _ p (done-of called) (put .before .part .result .now) (put .put .last .0)
          (start called .args .message .now) m (put .before .part .ensures) (put .put .ensures)))
 
 same-length-3 : tie.Need-same-length-3
@@ -165,10 +166,10 @@ returns-2 c =
     let called = arm .before .before .before .before in
     let p = start called .args .packet .now in
     let room = called .gather .last .0 in
-    let a = assembled-at called _ _ _ (arm .then2 .given .1) in
-    ( several-echoed _ _ _ p (done-of called) room (assembles .assemble .result) a (assembles .assemble .ensures .1),
+    let a = assembled-at called _ (arm .then2 .given .1) in
+    ( several-echoed _ p (done-of called) room (assembles .assemble .result) a (assembles .assemble .ensures .1),
       (called .gather .ensures .1,
-       several-written _ _ _ p (done-of called) room (assembles .assemble .last .0) (start called .args .message .now) a
+       several-written _ p (done-of called) room (assembles .assemble .last .0) (start called .args .message .now) a
          (assembles .assemble .ensures .0)))
 
 same-length-5 : tie.Need-same-length-5

@@ -13,6 +13,7 @@ use lib.ListN.{length, drop, getD, length-drop}
 use Rattle.rules.specs.Octets.{if_then_else_}
 use Rattle.rules.specs.Packets.{labelIn, mtypeIn, isNext, longest}
 use Rattle.rules.specs.Saved.{gatheringAt, gatheringIn, payloadLengthIn}
+use Rattle.rules.specs.declared.Header.{Header}
 use Rattle.packets_gather.specs.Nexts.{nextFurther}
 use Rattle.packets_gather.specs.declared.nexts.Next.{Next}
 use Rattle.packets_gather.specs.declared.nexts.Next.the-variants.{Ended, Grown, Complete}
@@ -36,8 +37,12 @@ owed room last = if last then eqb (suc (getD room 5 0)) (getD room 4 0) else ltb
 abbrev fits : List ℕ → List ℕ → Bool
 fits room p = leb (length (gatheringAt room .message .payload) + length (drop 1 p)) 512
 
+-- the header of the message that is gathered
+abbrev headerIn : List ℕ → Header
+headerIn room = record { label = getD room 1 0; mtype = getD room 2 0; signal = getD room 3 0 }
+
 abbrev chosen : List ℕ → Bool → Bool → Next
-chosen room last t = if t then (if last then Complete (getD room 1 0) (getD room 2 0) (getD room 3 0) else Grown) else Ended
+chosen room last t = if t then (if last then Complete (headerIn room) else Grown) else Ended
 
 told : (room p : List ℕ) (last : Bool) → (getD room 0 0 ≡ 0 → ⊥)
   → answer room p last
@@ -87,7 +92,7 @@ module _ (room p : List ℕ) (last : Bool) (f : Found room p) where
     as-owed o e = ap (chosen room last) (sym (and-true o)) ∙ same-message o true e (fits-read ∙ le-leb _ 512 room-left)
 
     complete : last ≡ true → getD room 5 0 + 1 ≡ getD room 4 0
-      → Complete (getD room 1 0) (getD room 2 0) (getD room 3 0) ≡ answer room p last
+      → Complete (headerIn room) ≡ answer room p last
     complete e n =
         ap (λ (l : Bool). chosen room l true) (sym e) ∙ as-owed true (rw e (eq-eqb _ (getD room 4 0) (rw add-one at n)))
 

@@ -31,10 +31,10 @@ module _ (size : ℕ) (room p : List ℕ) (right : RoomRight room) where
   left-none : (r : Next) → OneOf (0 ∷ 1 ∷ 4 ∷ []) (tagOf the-type r) → RoomTells size room p r
     → gather size (gatheringIn room) p .gathering ≡ none
   left-none Ended k t = t .gathering
-  left-none (Single l n m) k t = t .gathering
+  left-none (Single h) k t = t .gathering
   left-none Begun k t = absurd (⊎-elim (eqb-false 2 0 refl) (⊎-elim (eqb-false 2 1 refl) (eqb-false 2 4 refl)) k)
   left-none Grown k t = absurd (⊎-elim (eqb-false 3 0 refl) (⊎-elim (eqb-false 3 1 refl) (eqb-false 3 4 refl)) k)
-  left-none (Complete l n m) k t = t .gathering
+  left-none (Complete h) k t = t .gathering
 
   ended-room : (r : Next) → OneOf (0 ∷ 1 ∷ 4 ∷ []) (tagOf the-type r) → RoomTells size room p r
     → set room 0 0 ≡ storeGathering (gather size (gatheringIn room) p .gathering) room

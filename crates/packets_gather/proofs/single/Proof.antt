@@ -31,7 +31,7 @@ long g (x ∷ []) h = refl
 long g (x ∷ y ∷ p) h = rw (lt-leb (length p) 512 (omega arith))
 
 good : (g : Option Gathering) (p : List ℕ) → 2 ≤ length p → length p ≤ 514 → getD p 0 0 < 256
-  → Single (getD p 0 0 / 16) (getD p 0 0 % 4) (getD p 1 0 % 64) ≡ answer g p
+  → Single (record { label = getD p 0 0 / 16; mtype = getD p 0 0 % 4; signal = getD p 1 0 % 64 }) ≡ answer g p
 unfolding nextBy readAs messageFrom mtypeIn signalIn longest
 good g [] h k small = absurd (omega arith)
 good g (x ∷ []) h k small = absurd (omega arith)

@@ -10,7 +10,7 @@ use lib.ListN.{length}
 use lib.Dec.{eqb}
 use Rattle.rules.specs.Octets.{if_then_else_}
 use Rattle.replay_script.specs.Numbers.{none}
-use Rattle.replay_script.specs.Hexes.{isThere, wholeOf, allThere, countOf}
+use Rattle.replay_script.specs.Hexes.{isThere, wholeOf, allThere, hexCount}
 use Rattle.replay_script.proofs.hexes.count.Statement.{statement}
 use Rattle.replay_script.proofs.hexes.count.Tie as tie
 
@@ -31,21 +31,21 @@ few t n h some = go (eqb n 0) (eqb ((n + 1) % 3) 0) (eqb (n % 2) 0) t some
 fewer : (t : Bool) (m n : ℕ) → m ≤ 8191 → n ≡ wholeOf t m → (n ≡ none → ⊥) → n ≤ 8191
 fewer t m n h e some = omega (arith, e, few t m h (λ z. some (e ∙ z)))
 
-long : (t : Bool) (s : List ℕ) → 8191 < length s → none ≡ countOf t s
-unfolding countOf
+long : (t : Bool) (s : List ℕ) → 8191 < length s → none ≡ hexCount t s
+unfolding hexCount
 long t s h = rw (lt-ltb 8191 (length s) h)
 
 module _ (t : Bool) (s : List ℕ) (n : ℕ) (short : length s ≤ 8191) (e : n ≡ wholeOf t (length s)) where
-  odd : n ≡ none → none ≡ countOf t s
-  unfolding countOf
+  odd : n ≡ none → none ≡ hexCount t s
+  unfolding hexCount
   odd h = rw (le-ltb 8191 (length s) short, ← e, eq-eqb n none h)
 
-  broken : (n ≡ none → ⊥) → allThere t s n ≡ false → none ≡ countOf t s
-  unfolding countOf
+  broken : (n ≡ none → ⊥) → allThere t s n ≡ false → none ≡ hexCount t s
+  unfolding hexCount
   broken h a = rw (le-ltb 8191 (length s) short, ← e, ne-eqb n none h, a)
 
-  counted : (n ≡ none → ⊥) → allThere t s n ≡ true → n ≡ countOf t s
-  unfolding countOf
+  counted : (n ≡ none → ⊥) → allThere t s n ≡ true → n ≡ hexCount t s
+  unfolding hexCount
   counted h a = rw (le-ltb 8191 (length s) short, ← e, ne-eqb n none h, a)
 
 -- one turn, by what its test says

@@ -5,7 +5,7 @@ use mathlib.Core.List.{List}
 use native.Mathlib.Omega.{arith}
 use borrow.Author.Needs.{needs}
 use lib.ListN.{length, take, drop}
-use Rattle.replay_script.specs.Lines.{firstOf, blanksOf, keptOf, trimmed, stepOf}
+use Rattle.replay_script.specs.Lines.{firstOf, blanksOf, keptOf, trimmed, stepIn}
 use Rattle.replay_script.proofs.Within.{first-within, kept-within}
 use Rattle.replay_script.proofs.lines.step.Statement.{statement}
 use Rattle.replay_script.proofs.lines.step.Tie as tie
@@ -22,11 +22,11 @@ ends-within line end e = omega (arith, e, first-within 35 line)
 module _ (line text : List ℕ) (from to : ℕ) (e : text ≡ take (firstOf 35 line) line) (f : from ≡ blanksOf text)
   (t : to ≡ keptOf text)
   where
-  cut-out : take (to - from) (drop from text) ≡ stepOf line
-  unfolding stepOf trimmed
+  cut-out : take (to - from) (drop from text) ≡ stepIn line
+  unfolding stepIn trimmed
   cut-out = rw (f, t, e)
 
-  nothing : to < from → take (0 - 0) (drop 0 line) ≡ stepOf line
+  nothing : to < from → take (0 - 0) (drop 0 line) ≡ stepIn line
   nothing h = ap (λ (n : ℕ). take n (drop from text)) none ∙ cut-out
     where
       none : 0 ≡ to - from

@@ -6,13 +6,13 @@ use mathlib.Core.Bool.{true}
 use borrow.Author.Needs.{needs}
 use lib.ListN.{length, drop}
 use Rattle.replay_script.specs.Lines.{partAt}
-use Rattle.replay_script.specs.Tables.{namedOf, saidOf}
+use Rattle.replay_script.specs.Tables.{namedOf, wordSaid}
 use Rattle.replay_script.proofs.tables.said.Statement.{statement}
 use Rattle.replay_script.proofs.tables.said.Tie as tie
 
 behind : (name table line r : List ℕ) (at : ℕ) → at ≡ namedOf name true table → line ≡ partAt 10 at table
-    → r ≡ drop (length name + 1) line → r ≡ saidOf name table
-unfolding saidOf
+    → r ≡ drop (length name + 1) line → r ≡ wordSaid name table
+unfolding wordSaid
 behind name table line r at e f g = rw (g, f, e)
 
 named-requires : tie.Need-named-requires

@@ -6,7 +6,7 @@ use native.Mathlib.Omega.{arith}
 use borrow.Author.Needs.{needs}
 use lib.ListN.{length, getD}
 use Rattle.replay_script.specs.Numbers.{none}
-use Rattle.replay_script.specs.Tables.{saidOf, frontOf, valueOf}
+use Rattle.replay_script.specs.Tables.{wordSaid, frontOf, valueOf}
 use Rattle.replay_script.proofs.tables.value.Statement.{statement}
 use Rattle.replay_script.proofs.tables.value.Tie as tie
 
@@ -20,7 +20,7 @@ unfolding frontOf
 front [] h = absurd (h refl)
 front (x ∷ text) h = refl
 
-value-of : (name table text : List ℕ) (n : ℕ) → text ≡ saidOf name table → n ≡ frontOf text → n ≡ valueOf name table
+value-of : (name table text : List ℕ) (n : ℕ) → text ≡ wordSaid name table → n ≡ frontOf text → n ≡ valueOf name table
 unfolding valueOf
 value-of name table text n e f = f ∙ ap frontOf e
 
