@@ -62,8 +62,8 @@ pub fn obey(signal: u8, book: &[u8], records: &mut [u8], payload: &[u8], reply: 
     let command = signal_of(signal);
     match command {
         Signal::Discover => commands_show::discovers::discover(book, records, payload, reply),
-        Signal::Start => commands_stream::shifts::start(book, records, payload, reply),
-        Signal::Suspend => commands_stream::shifts::suspend(book, records, payload, reply),
+        Signal::Start => commands_shift::start(book, records, payload, reply),
+        Signal::Suspend => commands_shift::suspend(book, records, payload, reply),
         Signal::Unassigned => commands_reply::general(),
         _ => on_endpoint(command, book, records, payload, reply),
     }

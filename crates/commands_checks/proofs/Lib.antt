@@ -1,3 +1,4 @@
 mod Signals
 pub mod Meeting
 pub mod Acting
+pub mod HeadMoved

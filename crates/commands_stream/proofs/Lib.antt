@@ -1,4 +1,2 @@
 mod HeadStored
 mod Moving
-mod StoredOver
-mod Shifting

@@ -29,7 +29,8 @@ use Rattle.commands_checks.specs.Named.{Named}
 use Rattle.commands_checks.proofs.Meeting.{entryIn, stands}
 use Rattle.commands_checks.proofs.Acting.{did-say, did-move}
 use Rattle.commands_stream.specs.Left.{leftAt}
-use Rattle.commands_stream.proofs.HeadStored.{moved-stored, left-stored}
+use Rattle.commands_checks.proofs.HeadMoved.{moved-stored}
+use Rattle.commands_stream.proofs.HeadStored.{left-stored}
 
 module _ {signal : Signal} {book records p reply : List ℕ} {at : Place} (call : Named signal book records p reply at)
     (on : ℕ → Entry → Outcome)

@@ -6,8 +6,8 @@ use Rattle.rules.specs.Endpoints.{inState}
 use Rattle.rules.specs.Saved.{recordRoom, headOctets}
 use Rattle.octets.specs.Patch.{patch}
 use Rattle.saved.specs.Records.{configSizeAt}
-use Rattle.commands_stream.proofs.shifts.shift_one.Statement.{statement}
-use Rattle.commands_stream.proofs.shifts.shift_one.Tie as tie
+use Rattle.commands_shift.proofs.shift_one.Statement.{statement}
+use Rattle.commands_shift.proofs.shift_one.Tie as tie
 
 get-requires : tie.Need-get-requires
 get-requires c κs = search needs

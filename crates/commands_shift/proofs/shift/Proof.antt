@@ -7,10 +7,10 @@ use borrow.Author.Needs.{needs}
 use borrow.Author.Tests.{not-true, not-false}
 use Rattle.rules.specs.Octets.{front}
 use Rattle.rules.specs.Commands.{ourIn}
-use Rattle.commands_stream.proofs.Shifting.{none-listed, Reached, reached-first, shifted-all, stopped, record-there}
-use Rattle.commands_stream.proofs.Shifting.{reached-next}
-use Rattle.commands_stream.proofs.shifts.shift.Statement.{statement}
-use Rattle.commands_stream.proofs.shifts.shift.Tie as tie
+use Rattle.commands_shift.proofs.Shifting.{none-listed, Reached, reached-first, shifted-all, stopped, record-there}
+use Rattle.commands_shift.proofs.Shifting.{reached-next}
+use Rattle.commands_shift.proofs.shift.Statement.{statement}
+use Rattle.commands_shift.proofs.shift.Tie as tie
 
 abbrev Inv-loop : tie.InvT-loop
 Inv-loop signal to book records₀ payload reply₀ i₀ records reply i =

@@ -1,8 +1,8 @@
--- `start` meets its contract: it is the shift of its signal.
+-- `suspend` meets its contract: it is the shift of its signal.
 use borrow.Author.Needs.{needs}
 use Rattle.rules.specs.Commands.{obey}
-use Rattle.commands_stream.proofs.shifts.start.Statement.{statement}
-use Rattle.commands_stream.proofs.shifts.start.Tie as tie
+use Rattle.commands_shift.proofs.suspend.Statement.{statement}
+use Rattle.commands_shift.proofs.suspend.Tie as tie
 
 shift-requires : tie.Need-shift-requires
 shift-requires c κs = search needs
@@ -17,5 +17,5 @@ returns : tie.Need-returns
 unfolding obey
 returns c = search needs
 
-pub start-spec : {M : Type 1} → statement M
-start-spec = tie.close (tie.spec shift-requires same-length same-length-2 returns)
+pub suspend-spec : {M : Type 1} → statement M
+suspend-spec = tie.close (tie.spec shift-requires same-length same-length-2 returns)

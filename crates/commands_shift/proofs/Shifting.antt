@@ -30,8 +30,8 @@ use Rattle.commands_checks.specs.Met.{metOf}
 use Rattle.commands_checks.specs.declared.preambles.Met.{Met}
 use Rattle.commands_checks.specs.declared.preambles.Met.the-variants.{Refused, Here}
 use Rattle.commands_checks.proofs.Meeting.{metAs, meets-as, met-placed}
-use Rattle.commands_stream.proofs.HeadStored.{moved-stored}
-use Rattle.commands_stream.proofs.StoredOver.{Kept, kept-same, kept-set, kept-length, kept-short, store-over}
+use Rattle.commands_checks.proofs.HeadMoved.{moved-stored}
+use Rattle.commands_shift.proofs.StoredOver.{Kept, kept-same, kept-set, kept-length, kept-short, store-over}
 
 module _ (signal : Signal) (to : State) where
   -- too few SEIDs are listed

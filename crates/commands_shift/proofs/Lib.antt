@@ -1,0 +1,2 @@
+mod StoredOver
+mod Shifting
