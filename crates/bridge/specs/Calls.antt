@@ -3,8 +3,7 @@
 use Prim.Native.Nat.{ℕ}
 use mathlib.Core.Path.{_≡_}
 use mathlib.Core.List.{List}
-use Rattle.rules.specs.Host.{Kept, freshCall, Answered, packetCall, eventCall}
-use Rattle.rules.specs.Host.{Cut, cutCall}
+use Rattle.rules.specs.Host.{Kept, freshCall, Answered, packetCall, eventCall, Cut, cutCall}
 use Rattle.rules.specs.declared.Event.{Event}
 use Rattle.rules.specs.declared.Piece.{Piece}
 use Rattle.rules.specs.declared.Told.{Told}

@@ -7,7 +7,8 @@ use rules::OurSeid;
 use rules::Piece;
 use rules::Standing;
 use rules::Told;
-use rules::layout::COUNT;
+use rules::layout::COUNT_PLACE;
+use rules::layout::LINK_MARK;
 use rules::layout::RECORD;
 use rules::layout::RECORDS;
 
@@ -35,8 +36,8 @@ pub fn fresh(book: &[u8], saved: &mut [u8]) -> u8
         return 12;
     }
     saved_fresh::begin(book, &mut saved[RECORDS..]);
-    saved[0] = entries as u8;
-    saved[COUNT] = 0;
+    saved[COUNT_PLACE] = entries as u8;
+    saved[LINK_MARK] = 0;
     0
 }
 
@@ -65,7 +66,7 @@ pub fn event(book: &[u8], saved: &mut [u8], event: Event) -> u8
         Event::Down(seid) => saved_events::down(book, &mut saved[RECORDS..], seid),
         Event::Lost => {
             saved_events::lost(&mut saved[RECORDS..], book::places::count(book));
-            saved[COUNT] = 0;
+            saved[LINK_MARK] = 0;
             0
         }
     }

@@ -12,8 +12,7 @@ use Rattle.rules.specs.Octets.{front, octetsIn}
 use Rattle.rules.specs.Book.{bookOf}
 use Rattle.rules.specs.Packets.{Message, gather}
 use Rattle.rules.specs.Endpoints.{Ends}
-use Rattle.rules.specs.Saved.{recordsPlace, areaFor, countIn, linkOf, recordsOf, gatheringAt, gatheringIn, endsIn}
-use Rattle.rules.specs.Saved.{connectionIn}
+use Rattle.rules.specs.Saved.{recordsPlace, areaFor, countIn, linkOf, recordsOf, gatheringAt, gatheringIn, endsIn, connectionIn}
 use Rattle.rules.specs.Saved.{store}
 use Rattle.rules.specs.Host.{nothingSaid, turnOf, takes, Answered}
 use Rattle.rules.specs.declared.Header.{Header}

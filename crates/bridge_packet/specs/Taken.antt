@@ -9,9 +9,7 @@ use Rattle.rules.specs.Octets.{if_then_else_, front}
 use Rattle.rules.specs.Book.{bookNumber, bookOf}
 use Rattle.rules.specs.Packets.{Message, gather}
 use Rattle.rules.specs.Saved.{countRoom, recordsPlace, linkOf, recordsOf, payloadLengthIn, gatheringAt, gatheringIn}
-use Rattle.rules.specs.Saved.{storeGathering}
-use Rattle.rules.specs.Saved.{endsIn, storeEnds, connectionIn, store}
-use Rattle.rules.specs.Saved.{savedRight}
+use Rattle.rules.specs.Saved.{storeGathering, endsIn, storeEnds, connectionIn, store, savedRight}
 use Rattle.rules.specs.Commands.{answer}
 use Rattle.rules.specs.Host.{nothingSaid, toldOf, payloadOf, takes, Answered}
 use Rattle.rules.specs.declared.Told.{Told}

@@ -9,17 +9,17 @@ use borrow.Author.Tests.{ne-eqb}
 use Rattle.rules.specs.Octets.{if_then_else_, isEmpty}
 use Rattle.rules.specs.Book.{bookOf}
 use Rattle.rules.specs.Endpoints.{Endpoint, idleHead, endAt}
-use Rattle.rules.specs.Saved.{recordRoom, configRoom, recordsOf, headIn, endsIn, connectionIn}
-use Rattle.rules.specs.Host.{refusalOf, settingsOf, Shown, shownAt, settingsCall, heard, heardAt, delayCall}
-use Rattle.rules.specs.Host.{standing, nowhere, standingAt, statusCall}
+use Rattle.rules.specs.Saved.{recordRoom, configRoom, recordsOf, headIn, endsIn, connectionIn, recordAt}
+use Rattle.rules.specs.Host.{refusalOf, settingsOf, Shown, shownAt, settingsCall, heard, heardAt, delayCall, standing, nowhere}
+use Rattle.rules.specs.Host.{standingAt, statusCall}
 use Rattle.rules.specs.declared.OurSeid.{OurSeid}
 use Rattle.rules.specs.declared.Head.{Head}
 use Rattle.octets.specs.Patch.{part}
 use Rattle.book.specs.Places.{knownAt, placeIn, foundBy}
 use Rattle.book.specs.declared.places.Located.the-variants.{Unknown}
 use Rattle.book.proofs.Found.{entryBy, found-as, Placed, placed}
-use Rattle.saved.specs.Records.{recordAt, configSizeAt, configAt}
-use Rattle.saved.proofs.OneStore.{loaded-one, record-inside, length-told}
+use Rattle.saved.specs.Records.{configSizeAt, configAt}
+use Rattle.saved.proofs.OneStore.{loaded-one, has-room, length-told}
 use Rattle.bridge_questions.specs.Questions.{Finds}
 use Rattle.bridge_refusals.proofs.Refusing.{Calm}
 
@@ -87,8 +87,7 @@ module _ (book saved : List ℕ) (s : OurSeid) where
 
       pub record-there : (i + 1) * recordRoom ≤ length records
       record-there =
-          subst (λ (l : List ℕ). (i + 1) * recordRoom ≤ length l) (sym lent)
-            (record-inside (length (bookOf book)) i (recordsOf saved) (place .counted) (calm .inside .held))
+          has-room (length (bookOf book)) i (recordsOf saved) records (place .counted) (calm .inside .held) lent
 
       pub config-fits : configSizeAt i records ≤ configRoom
       config-fits =

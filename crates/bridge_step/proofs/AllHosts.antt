@@ -14,8 +14,8 @@ use Rattle.rules.specs.Endpoints.{endAt, idle}
 use Rattle.rules.specs.Saved.{connectionIn, savedRight}
 use Rattle.rules.specs.Host.{Kept, nothingSaid, Answered, packetCall}
 use Rattle.rules.specs.Sessions
-use Rattle.rules.specs.Sessions.{check, fresh, packet, event, settings, delay, packets, cut, number, told, shown, heard}
-use Rattle.rules.specs.Sessions.{counted, cutOff, Done, keeping, answered, call, answers, after, stands, status}
+use Rattle.rules.specs.Sessions.{check, fresh, packet, event, settings, delay, packets, cut, number, told, shown, heard, counted}
+use Rattle.rules.specs.Sessions.{cutOff, Done, keeping, answered, call, answers, after, stands, status}
 use Rattle.rules.specs.Listed.{EachListed}
 use Rattle.rules.specs.Moves.{shifts, shiftsIn, StoppedSeen}
 use Rattle.rules.specs.Alike.{alike, restrained, Begins, begun, lost, cleared, compared}

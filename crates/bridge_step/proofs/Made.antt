@@ -17,8 +17,8 @@ use Rattle.octets.proofs.Patches.{front-patch}
 use Rattle.bridge.specs.Calls.{Freshens, Takes, Happens, Cuts}
 use Rattle.bridge_step.specs.declared.Call.{Call}
 use Rattle.bridge_step.specs.declared.Call.the-variants as Call
-use Rattle.bridge_step.specs.declared.Answer.the-variants.{Number, Told as ToldIt, Shown, Heard as HeardIt, Stands}
-use Rattle.bridge_step.specs.declared.Answer.the-variants.{Counted, CutOff}
+use Rattle.bridge_step.specs.declared.Answer.the-variants.{Number, Told as ToldIt, Shown, Heard as HeardIt, Stands, Counted}
+use Rattle.bridge_step.specs.declared.Answer.the-variants.{CutOff}
 use Rattle.bridge_step.specs.Steps.{callBy, answerIn, areaAfter, roomAfter, exitOf, Steps, Copied, copiedOf}
 
 module _ (book saved : List ℕ) (k : Call) (input area room : List ℕ) where

@@ -13,10 +13,8 @@ use Rattle.rules.specs.Host.{payloadOf}
 use Rattle.commands_reply.specs.Answers.{saidOf}
 use Rattle.commands_reply.specs.declared.Said.{Said}
 use Rattle.rules.specs.declared.Signal.{Signal}
-use Rattle.rules.specs.declared.Signal.the-variants.{Discover, GetCapabilities, SetConfiguration, GetConfiguration}
-use Rattle.rules.specs.declared.Signal.the-variants.{Reconfigure}
-use Rattle.rules.specs.declared.Signal.the-variants.{OpenUp, Start, Close, Suspend, Abort, SecurityControl}
-use Rattle.rules.specs.declared.Signal.the-variants.{GetAllCapabilities}
+use Rattle.rules.specs.declared.Signal.the-variants.{Discover, GetCapabilities, SetConfiguration, GetConfiguration, Reconfigure}
+use Rattle.rules.specs.declared.Signal.the-variants.{OpenUp, Start, Close, Suspend, Abort, SecurityControl, GetAllCapabilities}
 use Rattle.rules.specs.declared.Signal.the-variants.{DelayReport, Unassigned}
 use Rattle.rules.proofs.Signal.{the-type}
 use Rattle.rules.proofs.Tests.{clash}

@@ -10,8 +10,7 @@ use rules::Signal;
 
 ghost use mathlib.Core.Path.{_≡_};
 ghost use mathlib.Core.Bool.{true};
-ghost use Rattle.rules.specs.Commands.{signalOf};
-ghost use Rattle.rules.specs.Commands.{obey as obeying};
+ghost use Rattle.rules.specs.Commands.{signalOf, obey as obeying};
 ghost use Rattle.saved.specs.Serves.{Serves};
 ghost use Rattle.commands_reply.specs.Obeys.{Obeys};
 ghost use Rattle.commands_checks.specs.Met.{namesOne};

@@ -1,4 +1,3 @@
 mod Signals
 pub mod Meeting
 pub mod Acting
-pub mod HeadMoved

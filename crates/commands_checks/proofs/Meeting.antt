@@ -10,16 +10,14 @@ use borrow.Author.Tests.{eqb-true, leb-true}
 use Rattle.rules.specs.Octets.{if_then_else_}
 use Rattle.rules.specs.Book.{Entry, bookNumber, bookOf}
 use Rattle.rules.specs.Endpoints.{Ends, endAt, legalEnd}
-use Rattle.rules.specs.Saved.{recordRoom, configRoom, headIn, endsIn}
+use Rattle.rules.specs.Saved.{recordRoom, configRoom, headIn, endsIn, recordAt}
 use Rattle.rules.specs.Commands.{Outcome, stays, rejects, lengthRight, ourIn, may, wrongState, metAt, preamble, atMet, named}
 use Rattle.rules.specs.Commands.{Met as MetBy, refused, here, meets as meetsBy}
 use Rattle.rules.specs.declared.OurSeid.{OurSeid}
 use Rattle.rules.specs.declared.Head.{Head}
 use Rattle.rules.specs.declared.Signal.{Signal}
-use Rattle.rules.specs.declared.Signal.the-variants.{Discover, GetCapabilities, SetConfiguration, GetConfiguration}
-use Rattle.rules.specs.declared.Signal.the-variants.{Reconfigure}
-use Rattle.rules.specs.declared.Signal.the-variants.{OpenUp, Start, Close, Suspend, Abort, SecurityControl}
-use Rattle.rules.specs.declared.Signal.the-variants.{GetAllCapabilities}
+use Rattle.rules.specs.declared.Signal.the-variants.{Discover, GetCapabilities, SetConfiguration, GetConfiguration, Reconfigure}
+use Rattle.rules.specs.declared.Signal.the-variants.{OpenUp, Start, Close, Suspend, Abort, SecurityControl, GetAllCapabilities}
 use Rattle.rules.specs.declared.Signal.the-variants.{DelayReport, Unassigned}
 use Rattle.rules.proofs.Tests.{Told?, told, passed, failed, clash}
 use Rattle.rules.proofs.Places.{legal-at}
@@ -29,7 +27,7 @@ use Rattle.book.specs.declared.places.Place.{Place}
 use Rattle.book.specs.declared.places.Located.{Located}
 use Rattle.book.specs.declared.places.Located.the-variants.{Unknown, Known}
 use Rattle.book.proofs.Found.{entryBy, found-as, Placed, placed as placed-in}
-use Rattle.saved.specs.Records.{recordAt, configSizeAt, configAt}
+use Rattle.saved.specs.Records.{configSizeAt, configAt}
 use Rattle.saved.specs.Held.{Held}
 use Rattle.saved.proofs.OneStore.{loaded-one, record-inside, length-told}
 use Rattle.commands_reply.specs.Obeys.{endsOf}

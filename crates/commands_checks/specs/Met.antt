@@ -9,10 +9,8 @@ use Rattle.rules.specs.Endpoints.{Ends, endAt}
 use Rattle.rules.specs.Commands.{lengthRight, ourIn, may, wrongState}
 use Rattle.rules.specs.declared.OurSeid.{OurSeid}
 use Rattle.rules.specs.declared.Signal.{Signal}
-use Rattle.rules.specs.declared.Signal.the-variants.{Discover, GetCapabilities, SetConfiguration, GetConfiguration}
-use Rattle.rules.specs.declared.Signal.the-variants.{Reconfigure}
-use Rattle.rules.specs.declared.Signal.the-variants.{OpenUp, Start, Close, Suspend, Abort, SecurityControl}
-use Rattle.rules.specs.declared.Signal.the-variants.{GetAllCapabilities}
+use Rattle.rules.specs.declared.Signal.the-variants.{Discover, GetCapabilities, SetConfiguration, GetConfiguration, Reconfigure}
+use Rattle.rules.specs.declared.Signal.the-variants.{OpenUp, Start, Close, Suspend, Abort, SecurityControl, GetAllCapabilities}
 use Rattle.rules.specs.declared.Signal.the-variants.{DelayReport, Unassigned}
 use Rattle.book.specs.Places.{placeIn}
 use Rattle.book.specs.declared.places.Located.{Located}

@@ -10,8 +10,7 @@ use saved_states::is_streaming;
 use saved_states::is_up;
 
 ghost use mathlib.Core.Path.{_≡_};
-ghost use Rattle.rules.specs.Commands.{signalOf, lengthRight, wrongState};
-ghost use Rattle.rules.specs.Commands.{may as mayTake};
+ghost use Rattle.rules.specs.Commands.{signalOf, lengthRight, wrongState, may as mayTake};
 
 pub fn signal_of(signal: u8) -> Signal
     ensures { λ r. ⌜ r ≡ signalOf signal ⌝ }

@@ -11,7 +11,7 @@ use borrow.Author.Tests.{leb-true}
 use Rattle.rules.specs.Octets.{front}
 use Rattle.rules.specs.Elements.{items, faultIn, restored, couldStore}
 use Rattle.rules.specs.Endpoints.{Endpoint, isIdle, withConfig, endAt}
-use Rattle.rules.specs.Saved.{recordRoom, configRoom, headIn}
+use Rattle.rules.specs.Saved.{recordRoom, configRoom, headIn, recordAt}
 use Rattle.rules.specs.Commands.{accept, reject, moves, rejects, rejectsFault, lengthRight, may, reconfigureAt, obey}
 use Rattle.rules.specs.Host.{payloadOf}
 use Rattle.commands_reply.specs.Answers.{saidOf}
@@ -33,7 +33,7 @@ use Rattle.elements.proofs.Judging.{check-clean}
 use Rattle.elements_stored.specs.Stores.{markedStore, MarksFit}
 use Rattle.elements_stored.proofs.Stores.{Stores, could-checked, again-stores}
 use Rattle.book.specs.declared.places.Place.{Place}
-use Rattle.saved.specs.Records.{recordAt, configSizeAt, configAt}
+use Rattle.saved.specs.Records.{configSizeAt, configAt}
 use Rattle.commands_reply.specs.Obeys.{endsOf, Obeys}
 use Rattle.commands_checks.specs.Named.{Named}
 use Rattle.commands_checks.proofs.Meeting.{entryIn, stands}

@@ -9,7 +9,7 @@ use lib.ListN.{length, take, drop, getD}
 use Rattle.rules.specs.Octets.{front}
 use Rattle.rules.specs.Elements.{items, faultIn, stored}
 use Rattle.rules.specs.Endpoints.{Endpoint, farRight, settledBy, endAt}
-use Rattle.rules.specs.Saved.{recordRoom, headIn}
+use Rattle.rules.specs.Saved.{recordRoom, headIn, recordAt}
 use Rattle.rules.specs.Commands.{accept, reject, moves, rejects, rejectsFault, lengthRight, farIn, settled, setAt, obey}
 use Rattle.rules.specs.Host.{payloadOf}
 use Rattle.commands_reply.specs.Answers.{saidOf}
@@ -29,7 +29,6 @@ use Rattle.elements.proofs.Judging.{check-clean}
 use Rattle.elements_stored.specs.Stores.{markedStore, MarksFit}
 use Rattle.elements_stored.proofs.Stores.{set-stores}
 use Rattle.book.specs.declared.places.Place.{Place}
-use Rattle.saved.specs.Records.{recordAt}
 use Rattle.commands_reply.specs.Obeys.{endsOf, Obeys}
 use Rattle.commands_checks.specs.Named.{Named}
 use Rattle.commands_checks.proofs.Meeting.{entryIn, stands}

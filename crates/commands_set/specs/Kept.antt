@@ -5,13 +5,13 @@ use mathlib.Core.List.{List, _++_}
 use mathlib.Core.Bool.{true}
 use lib.ListN.{length}
 use Rattle.rules.specs.Elements.{items, couldStore}
-use Rattle.rules.specs.Saved.{recordRoom, configRoom, headIn, headOctets}
+use Rattle.rules.specs.Saved.{recordRoom, configRoom, headIn, headOctets, recordAt}
 use Rattle.rules.specs.declared.Head.{Head}
 use Rattle.rules.specs.declared.Rule.the-variants.{Reconfiguring}
 use Rattle.elements.specs.Walks.{checkOf}
 use Rattle.elements.specs.declared.marks.Marks.{Marks}
 use Rattle.elements.specs.declared.walks.Walked.the-variants.{Clean}
-use Rattle.saved.specs.Records.{recordAt, configSizeAt, configAt}
+use Rattle.saved.specs.Records.{configSizeAt, configAt}
 
 -- the octets of a record with this configuration: the head, which tells its length, and the configuration
 unfoldable pub keptOctets : Head → List ℕ → List ℕ

@@ -10,7 +10,7 @@ use lib.Seq.{drop-cons, drop-length}
 use Rattle.rules.specs.Octets.{front}
 use Rattle.rules.specs.Book.{bookNumber, bookOf}
 use Rattle.rules.specs.Endpoints.{Ends, inState, movedBy, endAt}
-use Rattle.rules.specs.Saved.{recordRoom, headIn, headOctets, recordsRight, endsIn, storeEnds}
+use Rattle.rules.specs.Saved.{recordRoom, headIn, headOctets, recordsRight, endsIn, storeEnds, recordAt}
 use Rattle.rules.specs.Commands.{Reply, accept, stays, rejects, lengthRight, ourIn, shiftOne, shiftEach, shift}
 use Rattle.rules.specs.Host.{payloadOf}
 use Rattle.commands_reply.specs.Answers.{saidOf}
@@ -20,7 +20,7 @@ use Rattle.rules.specs.declared.Signal.{Signal}
 use Rattle.rules.proofs.SavedReads.{Fits, ends-length, ends-back, ends-right, length-endsIn, read-short, octets-known}
 use Rattle.octets.specs.Patch.{patch}
 use Rattle.book.specs.declared.places.Place.{Place}
-use Rattle.saved.specs.Records.{recordAt, configSizeAt}
+use Rattle.saved.specs.Records.{configSizeAt}
 use Rattle.saved.specs.Held.{Held}
 use Rattle.saved.specs.Serves.{Serves}
 use Rattle.saved.proofs.OneStore.{record-inside}
@@ -30,7 +30,7 @@ use Rattle.commands_checks.specs.Met.{metOf}
 use Rattle.commands_checks.specs.declared.preambles.Met.{Met}
 use Rattle.commands_checks.specs.declared.preambles.Met.the-variants.{Refused, Here}
 use Rattle.commands_checks.proofs.Meeting.{metAs, meets-as, met-placed}
-use Rattle.commands_checks.proofs.HeadMoved.{moved-stored}
+use Rattle.saved.proofs.HeadMoved.{moved-stored}
 use Rattle.commands_shift.proofs.StoredOver.{Kept, kept-same, kept-set, kept-length, kept-short, store-over}
 
 module _ (signal : Signal) (to : State) where

@@ -11,12 +11,11 @@ ghost use mathlib.Core.Path.{_≡_};
 ghost use Prim.Native.Nat.{_+_, _*_, _≤_};
 ghost use lib.ListN.{length};
 ghost use Rattle.rules.specs.Endpoints.{inState};
-ghost use Rattle.rules.specs.Saved.{recordRoom, headIn, headOctets};
-ghost use Rattle.rules.specs.Commands.{obey};
-ghost use Rattle.rules.specs.Commands.{shift as shiftBy};
+ghost use Rattle.rules.specs.Saved.{recordRoom, headIn, headOctets, recordAt};
+ghost use Rattle.rules.specs.Commands.{obey, shift as shiftBy};
 ghost use Rattle.rules.specs.declared.Signal.the-variants.{Start, Suspend};
 ghost use Rattle.octets.specs.Patch.{patch};
-ghost use Rattle.saved.specs.Records.{recordAt, configSizeAt};
+ghost use Rattle.saved.specs.Records.{configSizeAt};
 ghost use Rattle.saved.specs.Serves.{Serves};
 ghost use Rattle.commands_reply.specs.Obeys.{Obeys};
 

@@ -8,7 +8,7 @@ use lib.ListN.{length, drop, getD, set, length-set}
 use lib.Seq.{drop-drop}
 use Rattle.rules.specs.Octets.{each-of}
 use Rattle.rules.specs.Book.{Entry, Book, bookNumber, entriesIn, bookOf}
-use Rattle.rules.specs.Saved.{recordRoom, endpointIn, endsIn}
+use Rattle.rules.specs.Saved.{recordRoom, endpointIn, endsIn, recordAt}
 use Rattle.rules.specs.Commands.{accept, inUse, discovered}
 use Rattle.rules.specs.Host.{payloadOf}
 use Rattle.commands_reply.specs.Answers.{saidOf}
@@ -18,7 +18,6 @@ use Rattle.octets.specs.Patch.{patch}
 use Rattle.octets.proofs.Patches.{front-patch, patch-none, patch-behind}
 use Rattle.book.proofs.Entries.{RightEntry, RightEntries, first-entry, other-entries, right-head}
 use Rattle.book.proofs.Found.{entryBy, entries-first, book-length}
-use Rattle.saved.specs.Records.{recordAt}
 use Rattle.commands_show.specs.Says.{Says}
 
 -- ---- The entries that are left

@@ -11,7 +11,7 @@ use Rattle.rules.specs.Octets.{front}
 use Rattle.rules.specs.Elements.{items, has}
 use Rattle.rules.specs.Book.{Entry, bookOf, isSource}
 use Rattle.rules.specs.Endpoints.{awaiting, takesDelay, withDelay, opened, movedBy, leaving, endAt}
-use Rattle.rules.specs.Saved.{recordRoom, headIn, headOctets, endsIn, pairIn}
+use Rattle.rules.specs.Saved.{recordRoom, headIn, headOctets, endsIn, pairIn, recordAt}
 use Rattle.rules.specs.Commands.{accept, reject, Outcome, moves, rejects, named, openAt, leaveAt, delayAt, obey}
 use Rattle.rules.specs.Host.{payloadOf}
 use Rattle.commands_reply.specs.Answers.{saidOf}
@@ -23,13 +23,13 @@ use Rattle.rules.specs.declared.Signal.{Signal}
 use Rattle.rules.specs.declared.Signal.the-variants.{OpenUp, DelayReport}
 use Rattle.octets.specs.Patch.{patch}
 use Rattle.book.specs.declared.places.Place.{Place}
-use Rattle.saved.specs.Records.{recordAt, configSizeAt, configAt}
+use Rattle.saved.specs.Records.{configSizeAt, configAt}
 use Rattle.commands_reply.specs.Obeys.{endsOf, Obeys}
 use Rattle.commands_checks.specs.Named.{Named}
 use Rattle.commands_checks.proofs.Meeting.{entryIn, stands}
 use Rattle.commands_checks.proofs.Acting.{did-say, did-move}
 use Rattle.commands_stream.specs.Left.{leftAt}
-use Rattle.commands_checks.proofs.HeadMoved.{moved-stored}
+use Rattle.saved.proofs.HeadMoved.{moved-stored}
 use Rattle.commands_stream.proofs.HeadStored.{left-stored}
 
 module _ {signal : Signal} {book records p reply : List ℕ} {at : Place} (call : Named signal book records p reply at)

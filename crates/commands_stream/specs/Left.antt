@@ -4,10 +4,10 @@ use mathlib.Core.List.{List}
 use mathlib.Core.Bool.{Bool}
 use Rattle.rules.specs.Octets.{if_then_else_}
 use Rattle.rules.specs.Endpoints.{isUp, idleHead, inState}
-use Rattle.rules.specs.Saved.{recordRoom, headIn, headOctets}
+use Rattle.rules.specs.Saved.{recordRoom, headIn, headOctets, recordAt}
 use Rattle.rules.specs.declared.State.{State}
 use Rattle.octets.specs.Patch.{patch}
-use Rattle.saved.specs.Records.{recordAt, configSizeAt}
+use Rattle.saved.specs.Records.{configSizeAt}
 
 abbrev pub leftBy : Bool → State → ℕ → List ℕ → List ℕ
 leftBy up to i l =

@@ -9,12 +9,9 @@ use lib.ListN.{length, drop, getD}
 use lib.Dec.{eqb}
 use borrow.Author.Tests.{eq-eqb, ne-eqb, eqb-true, eqb-false}
 use Rattle.rules.specs.Octets.{member}
-use Rattle.rules.specs.Elements.{Item, whole, short, items, categoryOf, lengthCode, isStrange, offerable, mayFollow}
-use Rattle.rules.specs.Elements.{startRight}
-use Rattle.rules.specs.Elements.{offerCode, itemCode, judge, itemCategory, blamed, missing, lacking, faultOr, faultPast}
-use Rattle.rules.specs.Elements.{faultIn}
-use Rattle.rules.specs.Elements.{Category, transport, reporting, recovery, protection, compression, multiplexing, codec}
-use Rattle.rules.specs.Elements.{delaying}
+use Rattle.rules.specs.Elements.{Item, whole, short, items, categoryOf, lengthCode, isStrange, offerable, mayFollow, startRight}
+use Rattle.rules.specs.Elements.{offerCode, itemCode, judge, itemCategory, blamed, missing, lacking, faultOr, faultPast, faultIn}
+use Rattle.rules.specs.Elements.{Category, transport, reporting, recovery, protection, compression, multiplexing, codec, delaying}
 use Rattle.rules.specs.Elements.{strange}
 use Rattle.rules.specs.declared.Rule.{Rule}
 use Rattle.rules.specs.declared.Rule.the-variants.{Offer, Setting, Reconfiguring}

@@ -12,10 +12,8 @@ use lib.Seq.{drop-drop, getD-drop}
 use lib.Dec.{leb, eqb}
 use borrow.Author.Tests.{leb-true, eqb-true, eqb-false, eq-eqb, ne-eqb}
 use Rattle.rules.specs.Octets.{if_then_else_, member, some-of, sameOctets}
-use Rattle.rules.specs.Elements.{Item, whole, short, headed, itemsPast, items, categoryOf, isStrange, fixed, itemCode, isOf}
-use Rattle.rules.specs.Elements.{has}
-use Rattle.rules.specs.Elements.{itemCategory, blamed, faultPast, faultIn, offerable, pick, picks, stored, restored}
-use Rattle.rules.specs.Elements.{couldStore}
+use Rattle.rules.specs.Elements.{Item, whole, short, headed, itemsPast, items, categoryOf, isStrange, fixed, itemCode, isOf, has}
+use Rattle.rules.specs.Elements.{itemCategory, blamed, faultPast, faultIn, offerable, pick, picks, stored, restored, couldStore}
 use Rattle.rules.specs.declared.Rule.{Rule}
 use Rattle.rules.specs.declared.Rule.the-variants.{Setting, Reconfiguring}
 use Rattle.rules.proofs.Tests.{Told?, passed, failed, told, clash, and-l, or-l, or-r}

@@ -19,8 +19,7 @@ use Rattle.saved.specs.Records.{configAt}
 use Rattle.saved.proofs.Configs.{size-short, config-part}
 use Rattle.bridge_refusals.proofs.Refusing.{Calm, calm}
 use Rattle.bridge_questions.proofs.Asked.{refused-shown, missing-shown, there-shown, record-there, config-fits, offer-inside}
-use Rattle.bridge_questions.proofs.Asked.{offer-shown}
-use Rattle.bridge_questions.proofs.Asked.{config-shown}
+use Rattle.bridge_questions.proofs.Asked.{offer-shown, config-shown}
 use Rattle.host.specs.Exports.{ours, nowhereBy, recordFrom, spanAt, spanCall, areaBy, shownBy, Stands}
 use Rattle.host.specs.declared.Span.{Span}
 

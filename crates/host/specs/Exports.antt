@@ -7,8 +7,7 @@ use lib.ListN.{length, getD}
 use lib.Dec.{eqb}
 use Rattle.rules.specs.Octets.{if_then_else_}
 use Rattle.rules.specs.Saved.{recordsPlace, recordRoom, headRoom, stateOctet, channelOctet, configLengthPlace}
-use Rattle.rules.specs.Host.{Kept, eventCall, refusalOf, Shown, settingsCall}
-use Rattle.rules.specs.Host.{statusCall}
+use Rattle.rules.specs.Host.{Kept, eventCall, refusalOf, Shown, settingsCall, statusCall}
 use Rattle.rules.specs.declared.OurSeid.{OurSeid}
 use Rattle.rules.specs.declared.Event.{Event}
 use Rattle.rules.specs.declared.Event.the-variants.{Up, Down, Lost}

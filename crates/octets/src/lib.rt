@@ -4,8 +4,7 @@ ghost use mathlib.Core.Path.{_≡_};
 ghost use Prim.Native.Nat.{_+_, _≤_};
 ghost use lib.ListN.{length};
 ghost use Rattle.rules.specs.Octets.{sameOctets};
-ghost use Rattle.octets.specs.Patch.{patch};
-ghost use Rattle.octets.specs.Patch.{part as partOf};
+ghost use Rattle.octets.specs.Patch.{patch, part as partOf};
 
 // Writes all of `src` into `dst`, from `at` on.
 pub fn put(dst: &mut [u8], at: usize, src: &[u8])

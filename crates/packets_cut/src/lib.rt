@@ -5,8 +5,7 @@ ghost use mathlib.Core.Path.{_≡_};
 ghost use mathlib.Core.List.{List};
 ghost use Prim.Native.Nat.{ℕ, _≤_, _<_, min};
 ghost use lib.ListN.{take};
-ghost use Rattle.rules.specs.Cutting.{avdtp, packetsFor};
-ghost use Rattle.rules.specs.Cutting.{header as headerFor};
+ghost use Rattle.rules.specs.Cutting.{avdtp, packetsFor, header as headerFor};
 ghost use Rattle.rules.specs.Host.{packetsCall, Cut, cutCall};
 ghost use Rattle.rules.proofs.Pieces.{headerOf, before};
 

@@ -11,9 +11,8 @@ use lib.Dec.{leb, ltb, eqb}
 use lib.ListN.{length, drop, getD}
 use Rattle.rules.specs.Octets.{if_then_else_, between}
 use Rattle.rules.specs.Packets.{PacketType, aSingle, aStart, aContinue, anEnd, packetTypeIn, labelIn, mtypeIn, messageFrom}
-use Rattle.rules.specs.Packets.{readAs, read}
-use Rattle.rules.specs.Packets.{packetIn, Gathering, Step, ended, completes, gathers, extended, begin, isNext, joined, goesOn}
-use Rattle.rules.specs.Packets.{taken, gather, longest}
+use Rattle.rules.specs.Packets.{readAs, read, packetIn, Gathering, Step, ended, completes, gathers, extended, begin, isNext}
+use Rattle.rules.specs.Packets.{joined, goesOn, taken, gather, longest}
 use Rattle.rules.specs.Saved.{gatheringAt, gatheringIn}
 use Rattle.rules.specs.declared.Header.{Header}
 use Rattle.packets_gather.specs.Nexts.{nextFurther, nextBy, nextOf}

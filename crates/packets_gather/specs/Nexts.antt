@@ -6,8 +6,7 @@ use mathlib.Core.Option.{Option, none, some}
 use lib.ListN.{length, drop}
 use lib.Dec.{leb}
 use Rattle.rules.specs.Octets.{if_then_else_, between}
-use Rattle.rules.specs.Packets.{Message, Packet, single, start, further, wrong, packetIn, Gathering, isNext, extended}
-use Rattle.rules.specs.Packets.{longest}
+use Rattle.rules.specs.Packets.{Message, Packet, single, start, further, wrong, packetIn, Gathering, isNext, extended, longest}
 use Rattle.packets_gather.specs.declared.nexts.Next.{Next}
 use Rattle.packets_gather.specs.declared.nexts.Next.the-variants.{Ended, Single, Begun, Grown, Complete}
 

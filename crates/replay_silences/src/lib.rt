@@ -11,6 +11,7 @@ use rules::layout::MARK;
 use rules::layout::MTYPE;
 use rules::layout::PACKETS;
 use rules::layout::PARTS;
+use rules::layout::PAYLOAD;
 
 // Label, message type, packet type: the parts of a packet's first octet.
 fn label_of(octet: u8) -> u8 {
@@ -62,7 +63,7 @@ fn further_key(packet: &[u8], gathering: &[u8]) -> u8 {
     if packet.len() == 0 {
         return b'e';
     }
-    if gathering.len() < 8 {
+    if gathering.len() < PAYLOAD {
         return b'o';
     }
     if gathering[MARK] == 0 {
@@ -148,25 +149,25 @@ fn completes(packet: &[u8], key: u8) -> bool {
     key == b'n'
 }
 
-// What is being gathered: a message of several packets of which not all have come.
-pub fn gathering(saved: &[u8]) {
-    if saved.len() < 8 {
+// What is being gathered, by the link part: a message of several packets of which not all have come.
+pub fn gathering(link: &[u8]) {
+    if link.len() < PAYLOAD {
         return;
     }
-    if saved[0] == 0 {
+    if link[MARK] == 0 {
         say(b"# no message is being gathered\n");
         return;
     }
-    fill(b"# part $ of $ of the message", wide(saved[5]), wide(saved[4]));
-    fill(b" with label $; $ octets of payload so far\n", wide(saved[1]), pair(saved[6], saved[7]));
+    fill(b"# part $ of $ of the message", wide(link[PARTS]), wide(link[PACKETS]));
+    fill(b" with label $; $ octets of payload so far\n", wide(link[LABEL]), pair(link[LENGTH_HIGH], link[LENGTH_LOW]));
 }
 
 // Whether something was being gathered.
-fn gathers(saved: &[u8]) -> bool {
-    if saved.len() < 8 {
+fn gathers(link: &[u8]) -> bool {
+    if link.len() < PAYLOAD {
         return false;
     }
-    saved[0] != 0
+    link[MARK] != 0
 }
 
 fn dropped(before: &[u8]) {

@@ -11,16 +11,15 @@ use native.Mathlib.Omega.{arith}
 use Rattle.rules.proofs.Tests.{Told?, passed, failed, told, clash, and-l, and-r, not-passed, same-octets}
 use Rattle.rules.proofs.Lists.{items-shown}
 use Rattle.rules.specs.Octets.{if_then_else_, some-of, each-of}
-use Rattle.rules.specs.Elements.{Item, whole, short, items, categoryOf, strange, transport, reporting, recovery}
-use Rattle.rules.specs.Elements.{protection, compression, multiplexing, codec, delaying, offersIn, offered}
-use Rattle.rules.specs.Elements.{fixed, isStrange, itemCode, judge, itemCategory, blamed, faultOr, faultPast, faultIn}
-use Rattle.rules.specs.Elements.{isOf, has}
+use Rattle.rules.specs.Elements.{Item, whole, short, items, categoryOf, strange, transport, reporting, recovery, protection}
+use Rattle.rules.specs.Elements.{compression, multiplexing, codec, delaying, offersIn, offered, fixed, isStrange, itemCode}
+use Rattle.rules.specs.Elements.{judge, itemCategory, blamed, faultOr, faultPast, faultIn, isOf, has}
 use Rattle.rules.specs.Book.{Entry, Book, Found, unknown, known, later, find, upToCodec, shownBy02}
 use Rattle.rules.specs.Packets.{Message}
-use Rattle.rules.specs.Endpoints.{Ends, Connection, idle, freshEnds, freshConnection, endAt, inState, movedBy}
-use Rattle.rules.specs.Endpoints.{downAt, happens}
-use Rattle.rules.specs.Commands.{accept, Outcome, stays, rejects, lengthRight, ourIn, may, refused, here, metAt}
-use Rattle.rules.specs.Commands.{meets, preamble, atMet, named, discovered, discover, offersAt, setAt, configurationAt}
+use Rattle.rules.specs.Endpoints.{Ends, Connection, idle, freshEnds, freshConnection, endAt, inState, movedBy, downAt}
+use Rattle.rules.specs.Endpoints.{happens}
+use Rattle.rules.specs.Commands.{accept, Outcome, stays, rejects, lengthRight, ourIn, may, refused, here, metAt, meets}
+use Rattle.rules.specs.Commands.{preamble, atMet, named, discovered, discover, offersAt, setAt, configurationAt}
 use Rattle.rules.specs.Commands.{reconfigureAt, openAt, shiftOne, shiftEach, shift, leaveAt, securityAt, signalOf, obey}
 use Rattle.rules.specs.Commands.{answer, Met}
 use Rattle.rules.specs.Alike.{alikeEntry, alike, usesDelay}

@@ -11,13 +11,11 @@ use Rattle.rules.specs.Elements.{items, faultIn, stored, restored}
 use Rattle.rules.specs.Book.{Entry, Book}
 use Rattle.rules.specs.Packets.{Message}
 use Rattle.rules.specs.Endpoints.{Endpoint, Ends, isIdle, isUp, isAwaited, legalEnd, legalEnds, awaiting, takesDelay}
-use Rattle.rules.specs.Endpoints.{farRight, inState, withDelay, withConfig, leaving, endAt, channelRight}
-use Rattle.rules.specs.Endpoints.{movedBy, opened}
+use Rattle.rules.specs.Endpoints.{farRight, inState, withDelay, withConfig, leaving, endAt, channelRight, movedBy, opened}
 use Rattle.rules.specs.Saved.{pairIn}
-use Rattle.rules.specs.Commands.{Reply, Outcome, stays, moves, lengthRight, ourIn, farIn, isOpen, may, discover}
-use Rattle.rules.specs.Commands.{offersAt}
-use Rattle.rules.specs.Commands.{settled, setAt, configurationAt, reconfigureAt, openAt, shiftEach}
-use Rattle.rules.specs.Commands.{shift, leaveAt, securityAt, delayAt, signalOf, obey, answer}
+use Rattle.rules.specs.Commands.{Reply, Outcome, stays, moves, lengthRight, ourIn, farIn, isOpen, may, discover, offersAt}
+use Rattle.rules.specs.Commands.{settled, setAt, configurationAt, reconfigureAt, openAt, shiftEach, shift, leaveAt}
+use Rattle.rules.specs.Commands.{securityAt, delayAt, signalOf, obey, answer}
 use Rattle.rules.specs.declared.Rule.the-variants.{Setting, Reconfiguring}
 use Rattle.rules.specs.declared.State.{State}
 use Rattle.rules.specs.declared.State.the-variants.{Open, Streaming, Closing, Aborting}

@@ -9,8 +9,7 @@ use lib.Dec.{eqb}
 use Rattle.rules.specs.Octets.{isEmpty}
 use Rattle.rules.specs.Elements.{items, has, couldStore}
 use Rattle.rules.specs.Book.{Entry}
-use Rattle.rules.specs.Endpoints.{Endpoint, idle, isAbsent, isAwaited, isUp, isIdle, isReported, channelRight}
-use Rattle.rules.specs.Endpoints.{takesDelay}
+use Rattle.rules.specs.Endpoints.{Endpoint, idle, isAbsent, isAwaited, isUp, isIdle, isReported, channelRight, takesDelay}
 use Rattle.rules.specs.Endpoints.{delayRight, farRight, keepsNothing, keepsSettings, legalEnd, inState, withChannel}
 use Rattle.rules.specs.Endpoints.{withDelay, withConfig, forgotten, leaving, movedBy, opened}
 use Rattle.rules.specs.Commands.{isConfigured, isOpen, isStreaming, isSet, settled}

@@ -15,10 +15,9 @@ use Rattle.rules.specs.Cutting.{packetAt}
 use Rattle.rules.specs.Endpoints.{Ends, Connection}
 use Rattle.rules.specs.Saved.{connectionIn, store}
 use Rattle.rules.specs.Commands.{Reply, silence, generalReject, accept, reject, answer}
-use Rattle.rules.specs.Host.{nothingSaid, said, toldOf, payloadOf, Turn, turnOf, takes, packetRefusal, Answered}
-use Rattle.rules.specs.Host.{packetCall, cutRefusal, cutCall, Cut}
-use Rattle.rules.specs.Sessions.{Call, check, fresh, packet, event, settings, delay, packets, cut, told, cutOff}
-use Rattle.rules.specs.Sessions.{answered}
+use Rattle.rules.specs.Host.{nothingSaid, said, toldOf, payloadOf, Turn, turnOf, takes, packetRefusal, Answered, packetCall}
+use Rattle.rules.specs.Host.{cutRefusal, cutCall, Cut}
+use Rattle.rules.specs.Sessions.{Call, check, fresh, packet, event, settings, delay, packets, cut, told, cutOff, answered}
 use Rattle.rules.specs.Sessions.{asked, call, answers, after, status}
 use Rattle.rules.specs.Alike.{restrained, afterEvent, cleared, compared}
 

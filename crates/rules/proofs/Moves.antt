@@ -14,12 +14,9 @@ use Rattle.rules.specs.Elements.{items, faultIn}
 use Rattle.rules.specs.Book.{Entry, Book, Found, unknown, known, find}
 use Rattle.rules.specs.Packets.{Message}
 use Rattle.rules.specs.Endpoints.{Endpoint, Ends, endAt, inState, idle, farRight, awaiting, takesDelay, movedBy}
-use Rattle.rules.specs.Commands.{Reply, silence, generalReject, accept, reject, Outcome, stays, moves, rejects}
-use Rattle.rules.specs.Commands.{lengthRight}
-use Rattle.rules.specs.Commands.{ourIn, farIn, wrongState, metAt, meets, named, discover, offersAt, setAt}
-use Rattle.rules.specs.Commands.{configurationAt}
-use Rattle.rules.specs.Commands.{reconfigureAt, openAt, shiftOne, shiftEach, shift, leaveAt, securityAt, delayAt}
-use Rattle.rules.specs.Commands.{signalOf}
+use Rattle.rules.specs.Commands.{Reply, silence, generalReject, accept, reject, Outcome, stays, moves, rejects, lengthRight}
+use Rattle.rules.specs.Commands.{ourIn, farIn, wrongState, metAt, meets, named, discover, offersAt, setAt, configurationAt}
+use Rattle.rules.specs.Commands.{reconfigureAt, openAt, shiftOne, shiftEach, shift, leaveAt, securityAt, delayAt, signalOf}
 use Rattle.rules.specs.Commands.{obey, answer}
 use Rattle.rules.specs.Moves.{movedOne, movedAll, mayOne, mayAll, failCode, standsAt, lists, movedIf, Stopped, shifts}
 use Rattle.rules.specs.Moves.{isAccept}

@@ -19,10 +19,9 @@ use Rattle.rules.specs.Endpoints.{Ends, Connection, isUp, awaiting, endA
 use Rattle.rules.specs.Saved.{areaFor, connectionIn, savedRight}
 use Rattle.rules.specs.Host
 use Rattle.rules.specs.Host.{checkCall, numberOr, savedNumber, refusalOf, packetRefusal, Kept, freshCall, nothingSaid}
-use Rattle.rules.specs.Host.{Answered, packetCall, eventCall, Shown, shownAt, settingsCall, heardAt, delayCall}
-use Rattle.rules.specs.Host.{Cut, cutRefusal, cutCall, standingAt, statusCall, nowhere, standing}
-use Rattle.rules.specs.Sessions.{Call, check, fresh, packet, event, settings, delay, packets, cut, keeping, answered}
-use Rattle.rules.specs.Sessions.{asked}
+use Rattle.rules.specs.Host.{Answered, packetCall, eventCall, Shown, shownAt, settingsCall, heardAt, delayCall, Cut}
+use Rattle.rules.specs.Host.{cutRefusal, cutCall, standingAt, statusCall, nowhere, standing}
+use Rattle.rules.specs.Sessions.{Call, check, fresh, packet, event, settings, delay, packets, cut, keeping, answered, asked}
 use Rattle.rules.specs.Sessions.{call, answers, status}
 use Rattle.rules.specs.Listed.{numberIn, is12}
 use Rattle.rules.specs.declared.OurSeid.{OurSeid}

@@ -9,18 +9,9 @@ use lib.ListN.{length, take, drop, set}
 use lib.Seq.{take-add, drop-drop}
 use Rattle.rules.specs.Octets.{octetsIn}
 use Rattle.rules.specs.Endpoints.{Endpoint, endAt}
-use Rattle.rules.specs.Saved.{recordRoom, endpointIn, recordRight, endsIn, recordsRight, storeEnd, storeEnds}
+use Rattle.rules.specs.Saved.{recordRoom, recordAt, endpointIn, recordRight, endsIn, recordsRight, storeEnd, storeEnds}
 use Rattle.rules.proofs.Tests.{and-l, and-r}
-use Rattle.rules.proofs.SavedReads.{octets-take, octets-drop, end-kept, ends-kept, first-room, rest-room}
-
--- the octets of record i
-abbrev pub recordAt : ℕ → List ℕ → List ℕ
-recordAt i l = take recordRoom (drop (i * recordRoom) l)
-
-one-more : (i : ℕ) (l : List ℕ) → drop (suc i * recordRoom) l ≡ drop (i * recordRoom) (drop recordRoom l)
-one-more i l =
-    let e : suc i * recordRoom ≡ recordRoom + i * recordRoom = omega arith in
-    ap (λ (k : ℕ). drop k l) e ∙ sym (drop-drop (i * recordRoom) recordRoom l)
+use Rattle.rules.proofs.SavedReads.{drop-first, octets-take, octets-drop, end-kept, ends-kept, first-room, rest-room}
 
 pub end-at : (n i : ℕ) (l : List ℕ) → i < n → endAt (endsIn n l) i ≡ endpointIn (recordAt i l)
 unfolding endAt endsIn
@@ -28,7 +19,7 @@ end-at zero i l h = absurd (omega arith)
 end-at (suc n) zero l h = refl
 end-at (suc n) (suc i) l h =
     end-at n i (drop recordRoom l) (omega arith)
-    ∙ ap (λ (x : List ℕ). endpointIn (take recordRoom x)) (sym (one-more i l))
+    ∙ ap (λ (x : List ℕ). endpointIn (take recordRoom x)) (sym (drop-first i l))
 
 pub store-one : (n i : ℕ) (l : List ℕ) (e : Endpoint) → i < n → n * recordRoom ≤ length l → recordsRight n l ≡ true
   → octetsIn l ≡ true
@@ -53,5 +44,5 @@ store-one (suc n) (suc i) l e h room right octets =
         (octets-drop recordRoom l octets))
     ∙ sym (append-assoc first (take behind rest) (storeEnd e (recordAt i rest) ++ drop (behind + recordRoom) rest))
     ∙ ap₂ _++_ (sym (ap (λ (k : ℕ). take k l) a ∙ take-add recordRoom behind l))
-        (ap₂ (λ (x y : List ℕ). storeEnd e (take recordRoom x) ++ y) (sym (one-more i l))
+        (ap₂ (λ (x y : List ℕ). storeEnd e (take recordRoom x) ++ y) (sym (drop-first i l))
           (drop-drop (behind + recordRoom) recordRoom l ∙ sym (ap (λ (k : ℕ). drop k l) b)))

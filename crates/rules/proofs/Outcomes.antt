@@ -7,8 +7,8 @@ use lib.ListN.{length, getD, set}
 use Rattle.rules.specs.Octets.{if_then_else_}
 use Rattle.rules.specs.Book.{Entry, Book, Found, unknown, known, find}
 use Rattle.rules.specs.Endpoints.{Ends, inState, endAt, movedBy}
-use Rattle.rules.specs.Commands.{Outcome, stays, rejects, lengthRight, ourIn, may, wrongState, Met, refused, here}
-use Rattle.rules.specs.Commands.{metAt, meets, preamble, atMet, named, shiftOne}
+use Rattle.rules.specs.Commands.{Outcome, stays, rejects, lengthRight, ourIn, may, wrongState, Met, refused, here, metAt}
+use Rattle.rules.specs.Commands.{meets, preamble, atMet, named, shiftOne}
 use Rattle.rules.specs.declared.OurSeid.{OurSeid}
 use Rattle.rules.specs.declared.State.{State}
 use Rattle.rules.specs.declared.Signal.{Signal}

@@ -12,8 +12,7 @@ use lib.Seq.{take-add, take-all}
 use lib.Dec.{leb, ltb, eqb}
 use borrow.Author.Tests.{le-leb, leb-true, leb-false, lt-ltb, le-ltb, eq-eqb, ne-eqb}
 use Rattle.rules.specs.Octets.{if_then_else_}
-use Rattle.rules.specs.Packets.{Message, Packet, single, start, further, longest, Gathering, completes, gathers}
-use Rattle.rules.specs.Packets.{extended}
+use Rattle.rules.specs.Packets.{Message, Packet, single, start, further, longest, Gathering, completes, gathers, extended}
 use Rattle.rules.specs.Packets.{begin, isNext, joined, goesOn, taken}
 use Rattle.rules.specs.Cutting.{Headers, packetsFor, partOf}
 use Rattle.rules.proofs.Tests.{Told?, passed, failed, told, between-both}

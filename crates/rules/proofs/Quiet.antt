@@ -10,15 +10,14 @@ use lib.Dec.{leb, ltb, eqb}
 use borrow.Author.Tests.{ltb-true, ltb-false, lt-leb, le-leb}
 use Rattle.rules.proofs.Tests.{Told?, passed, failed, told, and-l, and-r, not-passed}
 use Rattle.rules.proofs.Outcomes.{if-arms}
-use Rattle.rules.proofs.AlikeStep.{alike-shown, AlikeBooks, alike-books, fresh-same, FoundAlike, both-unknown}
-use Rattle.rules.proofs.AlikeStep.{both-known, find-alike, answer-same, happens-same}
+use Rattle.rules.proofs.AlikeStep.{alike-shown, AlikeBooks, alike-books, fresh-same, FoundAlike, both-unknown, both-known}
+use Rattle.rules.proofs.AlikeStep.{find-alike, answer-same, happens-same}
 use Rattle.rules.proofs.QuietStep.{quietEnds, quiet-unreported, fresh-quiet, answer-quiet, happens-quiet}
 use Rattle.rules.proofs.View.{view-step, begins-view}
 use Rattle.rules.proofs.LentAreas.{answers-cleared, after-cleared, restrained-cleared}
 use Rattle.rules.specs.Octets.{if_then_else_, isEmpty}
 use Rattle.rules.specs.Elements.{items}
-use Rattle.rules.specs.Book.{Entry, Book, Found, unknown, known, find, bookNumber, bookOf, written, upToCodec}
-use Rattle.rules.specs.Book.{shownBy02}
+use Rattle.rules.specs.Book.{Entry, Book, Found, unknown, known, find, bookNumber, bookOf, written, upToCodec, shownBy02}
 use Rattle.rules.specs.Packets.{Message, Gathering, sizeRight, gather}
 use Rattle.rules.specs.Endpoints.{Ends, Connection, freshConnection, isUp, endAt, awaiting, withEnds, Moved, downAt}
 use Rattle.rules.specs.Endpoints.{happens}

@@ -13,8 +13,7 @@ use Rattle.rules.specs.Endpoints.{endAt}
 use Rattle.rules.specs.Saved.{areaFor, connectionIn}
 use Rattle.rules.specs.Host.{freshCall, eventCall, settingsCall, delayCall}
 use Rattle.rules.specs.Sessions.{Call, packet, event, settings, delay, after}
-use Rattle.rules.specs.Alike.{alikeEntry, alike, usesDelay, usesIn, afterEvent, restrained, Begins, begun, lost}
-use Rattle.rules.specs.Alike.{cleared}
+use Rattle.rules.specs.Alike.{alikeEntry, alike, usesDelay, usesIn, afterEvent, restrained, Begins, begun, lost, cleared}
 use Rattle.rules.specs.Alike.{Alike}
 use Rattle.rules.specs.Computed.{computed}
 use Rattle.rules.specs.Table.{traceBook, replyArea, setConfiguration1}

@@ -12,13 +12,12 @@ use Rattle.rules.proofs.Storable.{stored-has, restored-has-8}
 use Rattle.rules.proofs.Outcomes.{if-arms, named-arms, shift-arms}
 use Rattle.rules.proofs.AlikeStep.{forgoes, message-forgoes}
 use Rattle.rules.specs.Octets.{member, some-of, each-of}
-use Rattle.rules.specs.Elements.{Item, items, itemsPast, faultIn, has, offerable}
-use Rattle.rules.specs.Elements.{stored, restored}
+use Rattle.rules.specs.Elements.{Item, items, itemsPast, faultIn, has, offerable, stored, restored}
 use Rattle.rules.specs.Book.{Entry, Book, Found, unknown, known, find}
 use Rattle.rules.specs.Packets.{Message}
 use Rattle.rules.specs.Endpoints.{Endpoint, Ends, Connection, idle, freshEnds, isAwaited, isUp, isReported, movedBy}
-use Rattle.rules.specs.Endpoints.{farRight, inState, withChannel, withConfig, forgotten, leaving, endAt, awaiting}
-use Rattle.rules.specs.Endpoints.{upIn, withEnds, Moved, downAt, happens, opened}
+use Rattle.rules.specs.Endpoints.{farRight, inState, withChannel, withConfig, forgotten, leaving, endAt, awaiting, upIn}
+use Rattle.rules.specs.Endpoints.{withEnds, Moved, downAt, happens, opened}
 use Rattle.rules.specs.Commands.{Reply, Outcome, stays, moves, lengthRight, ourIn, farIn, named, discover, offersAt}
 use Rattle.rules.specs.Commands.{settled, setAt, configurationAt, reconfigureAt, openAt, shiftEach, shift, leaveAt}
 use Rattle.rules.specs.Commands.{securityAt, signalOf, obey, answer}

@@ -10,9 +10,9 @@ use lib.ListN.{length, getD, replicate, length-append}
 use lib.Dec.{ltb, eqb, lit<, lit≤}
 use borrow.Author.Tests.{le-ltb}
 use Rattle.rules.specs.Octets.{if_then_else_, between}
-use Rattle.rules.specs.Packets.{Message, single, start, further, aSingle, aStart, aContinue, anEnd, sizeRight}
-use Rattle.rules.specs.Packets.{labelIn, mtypeIn, signalIn, packetTypeIn, messageFrom, readAs, read, packetIn}
-use Rattle.rules.specs.Packets.{Gathering, completes, gathers, taken, gather}
+use Rattle.rules.specs.Packets.{Message, single, start, further, aSingle, aStart, aContinue, anEnd, sizeRight, labelIn}
+use Rattle.rules.specs.Packets.{mtypeIn, signalIn, packetTypeIn, messageFrom, readAs, read, packetIn, Gathering, completes}
+use Rattle.rules.specs.Packets.{gathers, taken, gather}
 use Rattle.rules.specs.Cutting.{avdtp, partOf, firstOctet, header, countOf, packetAt, packetsFrom, cutUp}
 use Rattle.rules.specs.Gathered.{withDone, gatherAll}
 use Rattle.rules.proofs.Tests.{between-least}

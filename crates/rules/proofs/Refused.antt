@@ -15,8 +15,7 @@ use Rattle.rules.specs.Cutting.{packetAt}
 use Rattle.rules.specs.Endpoints.{Ends, Connection, freshConnection, happens, endAt}
 use Rattle.rules.specs.Saved.{areaFor, connectionIn, store}
 use Rattle.rules.specs.Commands.{Reply, silence, generalReject, accept, reject, answer}
-use Rattle.rules.specs.Host.{numberOr, nothingSaid, said, toldOf, payloadOf, Turn, turnOf, takes, packetRefusal}
-use Rattle.rules.specs.Host.{Answered}
+use Rattle.rules.specs.Host.{numberOr, nothingSaid, said, toldOf, payloadOf, Turn, turnOf, takes, packetRefusal, Answered}
 use Rattle.rules.specs.Host.{packetCall, Kept, freshCall, eventCall, Shown, shownAt, settingsCall, heard, heardAt}
 use Rattle.rules.specs.Host.{delayCall, refusalOf, Cut, cutRefusal, cutCall, standingAt, statusCall, nowhere, standing}
 use Rattle.rules.specs.declared.OurSeid.{OurSeid}

@@ -11,12 +11,9 @@ use lib.Dec.{leb, ltb}
 use borrow.Author.Tests.{leb-true, ltb-true, lt-ltb, le-leb}
 use Rattle.rules.specs.Octets.{between}
 use Rattle.rules.specs.Packets.{Message, labelIn, mtypeIn, signalIn, Packet, single, start, further, wrong, PacketType}
-use Rattle.rules.specs.Packets.{aSingle}
-use Rattle.rules.specs.Packets.{aStart, aContinue, anEnd, packetTypeIn, messageFrom, readAs, read, packetIn, Gathering}
-use Rattle.rules.specs.Packets.{Step}
-use Rattle.rules.specs.Packets.{ended, completes, gathers, extended, begin, isNext, joined, goesOn, taken, gather}
-use Rattle.rules.specs.Packets.{longest}
-use Rattle.rules.specs.Packets.{gatheringRight}
+use Rattle.rules.specs.Packets.{aSingle, aStart, aContinue, anEnd, packetTypeIn, messageFrom, readAs, read, packetIn}
+use Rattle.rules.specs.Packets.{Gathering, Step, ended, completes, gathers, extended, begin, isNext, joined, goesOn, taken}
+use Rattle.rules.specs.Packets.{gather, longest, gatheringRight}
 use Rattle.rules.specs.Endpoints.{legalGathering}
 use Rattle.rules.proofs.Tests.{and-l, and-r, between-least}
 use Rattle.rules.proofs.Outcomes.{if-arms}

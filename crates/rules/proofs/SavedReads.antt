@@ -18,12 +18,11 @@ use Rattle.rules.specs.Octets.{octetsIn, sameOctets, each-of, front}
 use Rattle.rules.specs.Book.{bookOf}
 use Rattle.rules.specs.Packets.{Gathering, longest}
 use Rattle.rules.specs.Endpoints.{Endpoint, Ends, Connection, freshConnection}
-use Rattle.rules.specs.Saved.{countRoom, gatheringRoom, linkRoom, recordsPlace, recordRoom, headRoom, configRoom}
-use Rattle.rules.specs.Saved.{areaFor, countIn, linkOf, recordsOf, unused, pairIn, stateIn, stateOctet, channelIn}
-use Rattle.rules.specs.Saved.{channelOctet, payloadLengthIn}
-use Rattle.rules.specs.Saved.{delayIn, delayMark, delayTenths, headIn, configIn, endpointIn, recordRight, headOctets}
-use Rattle.rules.specs.Saved.{storeEnd, endsIn, recordsRight, storeEnds, gatheringAt, gatheringIn, gatheringOctetsRight}
-use Rattle.rules.specs.Saved.{gatheringHead, storeGathering, connectionIn, store}
+use Rattle.rules.specs.Saved.{countRoom, gatheringRoom, linkRoom, recordsPlace, recordRoom, headRoom, configRoom, areaFor}
+use Rattle.rules.specs.Saved.{countIn, linkOf, recordsOf, unused, pairIn, stateIn, stateOctet, channelIn, channelOctet}
+use Rattle.rules.specs.Saved.{payloadLengthIn, delayIn, delayMark, delayTenths, headIn, configIn, endpointIn, recordRight}
+use Rattle.rules.specs.Saved.{headOctets, storeEnd, endsIn, recordsRight, storeEnds, gatheringAt, gatheringIn}
+use Rattle.rules.specs.Saved.{gatheringOctetsRight, gatheringHead, storeGathering, connectionIn, store}
 use Rattle.rules.specs.Computed.{computed}
 use Rattle.rules.specs.Table.{traceBook}
 use Rattle.rules.specs.declared.State.{State}

@@ -17,8 +17,8 @@ use Rattle.rules.specs.Saved.{areaFor, countIn, connectionIn, store, sav
 use Rattle.rules.specs.Host.{numberOr, refusalOf, packetRefusal, Kept, freshCall, Answered, packetCall, eventCall}
 use Rattle.rules.specs.Computed.{computed}
 use Rattle.rules.specs.Table.{traceBook}
-use Rattle.rules.specs.Sessions.{Call, check, fresh, packet, event, settings, delay, packets, cut, keeping}
-use Rattle.rules.specs.Sessions.{answered, asked, call, after, status}
+use Rattle.rules.specs.Sessions.{Call, check, fresh, packet, event, settings, delay, packets, cut, keeping, answered, asked}
+use Rattle.rules.specs.Sessions.{call, after, status}
 use Rattle.rules.specs.declared.Event.{Event}
 use Rattle.rules.proofs.Tests.{and-l, and-r}
 use Rattle.rules.proofs.SavedReads.{PayloadFits, Roomy, length-store, reads-stored, count-stored, stored-octets-right}

@@ -12,8 +12,7 @@ use Rattle.rules.specs.Endpoints.{Ends, Connection, endAt, idle, legalEn
 use Rattle.rules.specs.Saved.{connectionIn, savedRight}
 use Rattle.rules.specs.Commands.{Reply, silence, generalReject, accept, reject, answer}
 use Rattle.rules.specs.Host.{toldOf, said, turnOf, takes, packetCall}
-use Rattle.rules.specs.Sessions.{Call, packet, Answer, number, told, shown, heard, counted, cutOff, call, answered}
-use Rattle.rules.specs.Sessions.{after}
+use Rattle.rules.specs.Sessions.{Call, packet, Answer, number, told, shown, heard, counted, cutOff, call, answered, after}
 use Rattle.rules.specs.Sessions.{stands}
 use Rattle.rules.specs.Views.{Stepped, packetNumber, says, goes}
 use Rattle.rules.specs.Moves.{isAccept, shiftsIn}

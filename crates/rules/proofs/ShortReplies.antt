@@ -17,10 +17,9 @@ use Rattle.rules.specs.Packets.{Message, Gathering, gather}
 use Rattle.rules.specs.Endpoints.{Endpoint, Ends, Connection, isIdle, keepsNothing, legalEnd, legalEnds, awaiting}
 use Rattle.rules.specs.Endpoints.{takesDelay, farRight, endAt, legal}
 use Rattle.rules.specs.Commands.{Reply, silence, generalReject, accept, Outcome, stays, moves, rejects, rejectsFault}
-use Rattle.rules.specs.Commands.{lengthRight}
-use Rattle.rules.specs.Commands.{ourIn, farIn, discovered, discover, offersAt, setAt, configurationAt, reconfigureAt}
-use Rattle.rules.specs.Commands.{openAt}
-use Rattle.rules.specs.Commands.{shiftEach, shift, leaveAt, securityAt, delayAt, signalOf, obey, answer}
+use Rattle.rules.specs.Commands.{lengthRight, ourIn, farIn, discovered, discover, offersAt, setAt, configurationAt}
+use Rattle.rules.specs.Commands.{reconfigureAt, openAt, shiftEach, shift, leaveAt, securityAt, delayAt, signalOf, obey}
+use Rattle.rules.specs.Commands.{answer}
 use Rattle.rules.specs.Host.{payloadOf, turnOf, takes}
 use Rattle.rules.specs.declared.Rule.the-variants.{Setting, Reconfiguring}
 use Rattle.rules.specs.declared.State.{State}

@@ -12,8 +12,7 @@ use borrow.Author.Tests.{leb-true, le-leb, eqb-true, eq-eqb}
 use Rattle.rules.specs.Octets.{isEmpty}
 use Rattle.rules.specs.Book.{Entry, Book, Found, unknown, known, find}
 use Rattle.rules.specs.Packets.{Message, Gathering, gather}
-use Rattle.rules.specs.Endpoints.{Endpoint, Ends, Connection, idle, freshEnds, freshConnection, isAbsent, isAwaited}
-use Rattle.rules.specs.Endpoints.{isUp}
+use Rattle.rules.specs.Endpoints.{Endpoint, Ends, Connection, idle, freshEnds, freshConnection, isAbsent, isAwaited, isUp}
 use Rattle.rules.specs.Endpoints.{isIdle, isReported, channelRight, keepsNothing, legalEnd, legalEnds, awaiting}
 use Rattle.rules.specs.Endpoints.{legalGathering, legal, withChannel, forgotten, endAt, Moved, upIn, withEnds, downAt}
 use Rattle.rules.specs.Endpoints.{happens, movedBy, freshLink}

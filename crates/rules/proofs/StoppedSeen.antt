@@ -15,11 +15,11 @@ use Rattle.rules.specs.Book.{Book, bookNumber, bookOf}
 use Rattle.rules.specs.Packets.{Message, gather}
 use Rattle.rules.specs.Endpoints.{Ends, Connection}
 use Rattle.rules.specs.Saved.{areaFor, connectionIn, savedRight}
-use Rattle.rules.specs.Commands.{Reply, silence, generalReject, accept, reject, rejects, Outcome, stays, signalOf}
-use Rattle.rules.specs.Commands.{obey, answer}
+use Rattle.rules.specs.Commands.{Reply, silence, generalReject, accept, reject, rejects, Outcome, stays, signalOf, obey}
+use Rattle.rules.specs.Commands.{answer}
 use Rattle.rules.specs.Host.{toldOf, said, nothingSaid, payloadOf, turnOf, takes, packetCall, freshCall}
-use Rattle.rules.specs.Sessions.{packet, event, Answer, number, told, shown, heard, counted, cutOff, call, answered}
-use Rattle.rules.specs.Sessions.{after, stands}
+use Rattle.rules.specs.Sessions.{packet, event, Answer, number, told, shown, heard, counted, cutOff, call, answered, after}
+use Rattle.rules.specs.Sessions.{stands}
 use Rattle.rules.specs.Views.{Stepped, packetNumber, says, goes}
 use Rattle.rules.specs.Moves.{Stopped, isAccept, shifts, shiftsTo, RejectSeen, StoppedSeen}
 use Rattle.rules.specs.Table.{traceBook, replyArea, setConfiguration1}

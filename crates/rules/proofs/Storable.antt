@@ -14,8 +14,8 @@ use borrow.Author.Tests.{eqb-true, eq-eqb, ne-eqb, not-false}
 use Rattle.rules.specs.Octets.{if_then_else_, sameOctets, member, isEmpty, some-of}
 use Rattle.rules.specs.Elements.{Item, whole, short, items, element, categoryOf, lengthCode, itemCategory, isOf, has}
 use Rattle.rules.specs.Elements.{bitsWithin, codecWithin, valueWithin, offersIn, offered, isStrange, fixed, itemCode}
-use Rattle.rules.specs.Elements.{offerable, noFault, judge, blamed, missing, lacking, faultOr, faultPast, faultIn}
-use Rattle.rules.specs.Elements.{clearLow, kept, pick, picks, stored, restored, couldStore}
+use Rattle.rules.specs.Elements.{offerable, noFault, judge, blamed, missing, lacking, faultOr, faultPast, faultIn, clearLow}
+use Rattle.rules.specs.Elements.{kept, pick, picks, stored, restored, couldStore}
 use Rattle.rules.specs.Book.{written}
 use Rattle.rules.specs.Computed.{computed}
 use Rattle.rules.specs.declared.Rule.{Rule}

@@ -9,8 +9,8 @@ use Rattle.rules.specs.Octets.{if_then_else_}
 use Rattle.rules.specs.Elements.{items, faultIn, stored, restored}
 use Rattle.rules.specs.Book.{Entry, Book, Found, unknown, known, find, shownBy02, shownBy0C}
 use Rattle.rules.specs.Packets.{Message}
-use Rattle.rules.specs.Endpoints.{Endpoint, Ends, isIdle, isUp, awaiting, takesDelay, farRight, inState, withDelay}
-use Rattle.rules.specs.Endpoints.{opened, settledBy, movedBy, withConfig, leaving, endAt}
+use Rattle.rules.specs.Endpoints.{Endpoint, Ends, isIdle, isUp, awaiting, takesDelay, farRight, inState, withDelay, opened}
+use Rattle.rules.specs.Endpoints.{settledBy, movedBy, withConfig, leaving, endAt}
 use Rattle.rules.specs.Saved.{pairIn}
 use Rattle.rules.specs.declared.OurSeid.{OurSeid}
 use Rattle.rules.specs.declared.FarSeid.{FarSeid}

@@ -1,41 +1,31 @@
 -- One name that opens all definitions: a theorem that is computed says `unfolding computed`.
 use Rattle.rules.specs.Octets.{between, sameOctets, member, isEmpty, some-of, each-of, front}
-use Rattle.rules.specs.Elements.{headed, itemsPast, element, categoryOf, lengthCode, bitsWithin, codecWithin}
-use Rattle.rules.specs.Elements.{valueWithin}
-use Rattle.rules.specs.Elements.{offerable, mayFollow, startRight, offerCode, offersIn, offered, fixed, isStrange}
-use Rattle.rules.specs.Elements.{itemCode}
-use Rattle.rules.specs.Elements.{noFault, judge, itemCategory, blamed, missing, lacking, faultOr, faultPast, faultIn}
-use Rattle.rules.specs.Elements.{isOf, has}
-use Rattle.rules.specs.Elements.{clearLow, kept, pick, picks, stored, restored, couldStore}
-use Rattle.rules.specs.Book.{kindRight, mediaType, isSource, listRight, entriesNumber, bookNumber, entriesIn, bookOf}
-use Rattle.rules.specs.Book.{later, find, written, upToCodec, shownBy02, shownBy0C}
+use Rattle.rules.specs.Elements.{headed, itemsPast, element, categoryOf, lengthCode, bitsWithin, codecWithin, valueWithin}
+use Rattle.rules.specs.Elements.{offerable, mayFollow, startRight, offerCode, offersIn, offered, fixed, isStrange, itemCode}
+use Rattle.rules.specs.Elements.{noFault, judge, itemCategory, blamed, missing, lacking, faultOr, faultPast, faultIn, isOf}
+use Rattle.rules.specs.Elements.{has, clearLow, kept, pick, picks, stored, restored, couldStore}
+use Rattle.rules.specs.Book.{kindRight, mediaType, isSource, listRight, entriesNumber, bookNumber, entriesIn, bookOf, later}
+use Rattle.rules.specs.Book.{find, written, upToCodec, shownBy02, shownBy0C}
 use Rattle.rules.specs.Packets.{sizeRight, longest, labelIn, mtypeIn, signalIn, packetTypeIn, messageFrom, readAs, read}
-use Rattle.rules.specs.Packets.{packetIn}
-use Rattle.rules.specs.Packets.{ended, completes, gathers, extended, begin, isNext, joined, goesOn, taken, gather}
+use Rattle.rules.specs.Packets.{packetIn, ended, completes, gathers, extended, begin, isNext, joined, goesOn, taken, gather}
 use Rattle.rules.specs.Packets.{gatheringRight}
 use Rattle.rules.specs.Cutting.{packetsFor, partOf, firstOctet, header, countOf, packetAt, packetsFrom, cutUp}
 use Rattle.rules.specs.Gathered.{withDone, gatherAll}
 use Rattle.rules.specs.Endpoints.{idle, freshEnds, freshConnection, isAbsent, isAwaited, isUp, isIdle, isReported}
 use Rattle.rules.specs.Endpoints.{channelRight, takesDelay, delayRight, farRight, keepsNothing, keepsSettings, legalEnd}
-use Rattle.rules.specs.Endpoints.{legalEnds, awaiting, legalGathering, legal, movedBy, withConfig}
-use Rattle.rules.specs.Endpoints.{forgotten, leaving, endAt, upIn, withEnds, downAt, happens}
-use Rattle.rules.specs.Saved.{areaFor, countIn, linkOf, recordsOf, headIn, configIn, endpointIn, recordRight}
-use Rattle.rules.specs.Saved.{headOctets}
-use Rattle.rules.specs.Saved.{storeEnd}
-use Rattle.rules.specs.Saved.{endsIn, recordsRight, storeEnds}
-use Rattle.rules.specs.Saved.{gatheringAt, gatheringIn, gatheringOctetsRight, gatheringHead, storeGathering}
-use Rattle.rules.specs.Saved.{connectionIn}
-use Rattle.rules.specs.Saved.{store, savedRight}
-use Rattle.rules.specs.Commands.{signalOf, stays, moves, rejects, rejectsFault, lengthRight, ourIn, farIn}
-use Rattle.rules.specs.Commands.{isConfigured, isOpen, isStreaming, isSet, may, wrongState, metAt, meets, preamble}
-use Rattle.rules.specs.Commands.{atMet}
-use Rattle.rules.specs.Commands.{named, inUse}
+use Rattle.rules.specs.Endpoints.{legalEnds, awaiting, legalGathering, legal, movedBy, withConfig, forgotten, leaving}
+use Rattle.rules.specs.Endpoints.{endAt, upIn, withEnds, downAt, happens}
+use Rattle.rules.specs.Saved.{areaFor, countIn, linkOf, recordsOf, headIn, configIn, endpointIn, recordRight, headOctets}
+use Rattle.rules.specs.Saved.{storeEnd, endsIn, recordsRight, storeEnds, gatheringAt, gatheringIn, gatheringOctetsRight}
+use Rattle.rules.specs.Saved.{gatheringHead, storeGathering, connectionIn, store, savedRight}
+use Rattle.rules.specs.Commands.{signalOf, stays, moves, rejects, rejectsFault, lengthRight, ourIn, farIn, isConfigured}
+use Rattle.rules.specs.Commands.{isOpen, isStreaming, isSet, may, wrongState, metAt, meets, preamble, atMet, named, inUse}
 use Rattle.rules.specs.Commands.{discovered, discover, offersAt, settled, setAt, configurationAt, reconfigureAt, openAt}
 use Rattle.rules.specs.Commands.{shiftOne, shiftEach, shift, leaveAt, securityAt, delayAt, obey, answer}
 use Rattle.rules.specs.Host.{checkCall, numberOr, savedNumber, refusalOf, packetRefusal, freshCall, nothingSaid, said}
 use Rattle.rules.specs.Host.{toldOf, payloadOf, turnOf, takes, packetCall, eventCall, settingsOf, shownAt, settingsCall}
-use Rattle.rules.specs.Host.{heard, heardAt, delayCall, standing, nowhere, standingAt, statusCall, packetsCall}
-use Rattle.rules.specs.Host.{cutRefusal, cutCall}
+use Rattle.rules.specs.Host.{heard, heardAt, delayCall, standing, nowhere, standingAt, statusCall, packetsCall, cutRefusal}
+use Rattle.rules.specs.Host.{cutCall}
 use Rattle.rules.specs.Sessions.{keeping, answered, asked, call, answers, after}
 
 unfoldable pub computed : Unit {0}

@@ -31,6 +31,9 @@ use Rattle.rules.specs.declared.Head.{Head}
 -- What is absent in the head of a record, its first 16 octets, is zero there. These do not count: all of the gathering's octets
 -- but the mark where the mark says none, octets behind a payload's or a configuration's end, and octets behind the last record.
 
+abbrev pub countPlace : ℕ
+countPlace = 0
+
 abbrev pub countRoom : ℕ
 countRoom = 1
 
@@ -116,7 +119,7 @@ areaFor n = recordsPlace + n * recordRoom
 
 -- the three parts of an area
 unfoldable pub countIn : List ℕ → ℕ
-countIn l = getD l 0 0
+countIn l = getD l countPlace 0
 
 unfoldable pub linkOf : List ℕ → List ℕ
 linkOf l = take linkRoom (drop countRoom l)
@@ -201,6 +204,10 @@ unfoldable pub storeEnd : Endpoint → List ℕ → List ℕ
 storeEnd e r = front (headOctets (e .head) (length (e .config)) ++ e .config) r
 
 -- ---- All records
+
+-- the octets of record i
+abbrev pub recordAt : ℕ → List ℕ → List ℕ
+recordAt i l = take recordRoom (drop (i * recordRoom) l)
 
 unfoldable pub endsIn : ℕ → List ℕ → Ends
 endsIn zero l = []

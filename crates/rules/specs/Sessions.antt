@@ -2,8 +2,8 @@
 use Prim.Native.Nat.{ℕ}
 use mathlib.Core.List.{List, [], _∷_}
 use Rattle.rules.specs.Packets.{Message}
-use Rattle.rules.specs.Host.{checkCall, Kept, freshCall, Answered, packetCall, eventCall, Shown, settingsCall}
-use Rattle.rules.specs.Host.{delayCall, statusCall, packetsCall, Cut, cutCall}
+use Rattle.rules.specs.Host.{checkCall, Kept, freshCall, Answered, packetCall, eventCall, Shown, settingsCall, delayCall}
+use Rattle.rules.specs.Host.{statusCall, packetsCall, Cut, cutCall}
 use Rattle.rules.specs.declared.OurSeid.{OurSeid}
 use Rattle.rules.specs.declared.Event.{Event}
 use Rattle.rules.specs.declared.Standing.{Standing}

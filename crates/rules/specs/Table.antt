@@ -5,11 +5,10 @@ use mathlib.Core.Bool.{Bool, true, false, not}
 use lib.ListN.{length, take, replicate}
 use lib.Dec.{eqb}
 use Rattle.rules.specs.Octets.{if_then_else_}
-use Rattle.rules.specs.Book.{bookOf, find}
+use Rattle.rules.specs.Book.{bookOf, find, Found, unknown, known}
 use Rattle.rules.specs.Cutting.{cutUp}
 use Rattle.rules.specs.Endpoints.{Endpoint, endAt}
 use Rattle.rules.specs.Saved.{connectionIn, areaFor}
-use Rattle.rules.specs.Book.{Found, unknown, known}
 use Rattle.rules.specs.Host.{Answered, packetCall, eventCall, freshCall, delayCall}
 use Rattle.rules.specs.declared.OurSeid.{OurSeid}
 use Rattle.rules.specs.declared.State.{State}

@@ -30,3 +30,7 @@ pub const PARTS: usize = 5;
 pub const LENGTH_HIGH: usize = 6;
 pub const LENGTH_LOW: usize = 7;
 pub const PAYLOAD: usize = 8;
+
+// The count's place, and in the whole area the place of the gathering's mark.
+pub const COUNT_PLACE: usize = 0;
+pub const LINK_MARK: usize = COUNT + MARK;

@@ -6,8 +6,8 @@ use mathlib.Core.List.{List, [], _∷_, _++_}
 use native.Mathlib.Omega.{arith}
 use lib.ListN.{length, drop, getD, set}
 use lib.Seq.{drop-drop}
-use Rattle.rules.specs.Saved.{stateIn, stateOctet, channelIn, channelOctet, delayIn, delayMark, delayTenths, pairIn}
-use Rattle.rules.specs.Saved.{headRoom, unused, headIn, usedOctets, headOctets}
+use Rattle.rules.specs.Saved.{stateIn, stateOctet, channelIn, channelOctet, delayIn, delayMark, delayTenths, pairIn, headRoom}
+use Rattle.rules.specs.Saved.{unused, headIn, usedOctets, headOctets}
 use Rattle.octets.specs.Patch.{patch}
 use Rattle.rules.specs.declared.State.{State}
 use Rattle.rules.specs.declared.State.the-variants.{Idle}

@@ -2,3 +2,4 @@ pub mod Apart
 pub mod Configs
 pub mod Heads
 pub mod OneStore
+pub mod HeadMoved

@@ -12,13 +12,13 @@ use lib.Seq.{drop-drop}
 use Rattle.rules.specs.Octets.{front}
 use Rattle.rules.specs.Endpoints.{endAt}
 use Rattle.rules.specs.Saved.{recordRoom, headRoom, configRoom, headIn, endpointIn, headOctets, storeEnd, endsIn, storeEnds}
-use Rattle.rules.specs.Saved.{recordRight, recordsRight}
+use Rattle.rules.specs.Saved.{recordRight, recordsRight, recordAt}
 use Rattle.rules.proofs.OneRecord.{end-at, store-one}
 use Rattle.octets.specs.Patch.{patch, part}
 use Rattle.octets.proofs.Patches.{lent-front}
 use Rattle.rules.proofs.Tests.{and-l, and-r}
 use Rattle.rules.proofs.SavedReads.{drop-first}
-use Rattle.saved.specs.Records.{recordAt, configSizeAt, configAt}
+use Rattle.saved.specs.Records.{configSizeAt, configAt}
 use Rattle.saved.specs.Held.{Held}
 use Rattle.rules.specs.declared.Head.{Head}
 use Rattle.saved.proofs.Configs.{config-length, config-there}
@@ -119,3 +119,8 @@ module _ (n i : ℕ) (l : List ℕ) (inside : i < n) (held : Held n l) where
   pub head-emptied : (h : Head)
     → patch (i * recordRoom) (headOctets h 0) l ≡ storeEnds (set (endsIn n l) i (record { head = h; config = [] })) l
   head-emptied h = head-alone (i * recordRoom) (headOctets h 0) [] l refl ∙ stored-one n i l h [] inside held zero-le
+
+-- a record's place has room in the records as they are lent
+pub has-room : (n i : ℕ) (l m : List ℕ) → i < n → Held n l → m ≡ l → (i + 1) * recordRoom ≤ length m
+has-room n i l m inside held e =
+    subst (λ (x : List ℕ). (i + 1) * recordRoom ≤ length x) (sym e) (record-inside n i l inside held)

@@ -1,11 +1,8 @@
--- One record among the saved ones: its octets, and those of its configuration with their number.
-use Prim.Native.Nat.{ℕ, _*_}
+-- One record among the saved ones: the octets of its configuration, and their number.
+use Prim.Native.Nat.{ℕ}
 use mathlib.Core.List.{List}
-use lib.ListN.{take, drop, getD}
-use Rattle.rules.specs.Saved.{recordRoom, configLengthPlace, configIn}
-
-abbrev pub recordAt : ℕ → List ℕ → List ℕ
-recordAt i l = take recordRoom (drop (i * recordRoom) l)
+use lib.ListN.{getD}
+use Rattle.rules.specs.Saved.{configLengthPlace, recordAt, configIn}
 
 abbrev pub configSizeAt : ℕ → List ℕ → ℕ
 configSizeAt i l = getD (recordAt i l) configLengthPlace 0

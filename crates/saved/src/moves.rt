@@ -7,8 +7,7 @@ use rules::OurSeid;
 use rules::State;
 
 ghost use mathlib.Core.Path.{_≡_};
-ghost use Rattle.rules.specs.Endpoints.{idleHead, inState, withChannel, withDelay, settledBy};
-ghost use Rattle.rules.specs.Endpoints.{opened as openedBy};
+ghost use Rattle.rules.specs.Endpoints.{idleHead, inState, withChannel, withDelay, settledBy, opened as openedBy};
 ghost use Rattle.rules.specs.declared.Channel.the-variants.{Up};
 ghost use Rattle.rules.specs.declared.Delay.the-variants.{Reported};
 

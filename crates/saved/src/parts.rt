@@ -1,5 +1,6 @@
 // The parts of a saved area, where they are read. What is lent to be written begins at the same named places.
 use rules::layout::COUNT;
+use rules::layout::COUNT_PLACE;
 use rules::layout::LINK;
 use rules::layout::RECORDS;
 
@@ -13,7 +14,7 @@ pub fn count_in(saved: &[u8]) -> u8
     requires { ⌜ countRoom ≤ length (now saved) ⌝ }
     ensures { λ r. ⌜ r ≡ countIn (now (saved .entry)) ⌝ }
 {
-    saved[0]
+    saved[COUNT_PLACE]
 }
 
 pub fn link_of(saved: &[u8]) -> &[u8]

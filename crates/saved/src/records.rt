@@ -22,9 +22,9 @@ ghost use mathlib.Core.List.{_++_};
 ghost use Prim.Native.Nat.{_+_, _*_, _≤_};
 ghost use lib.ListN.{length, drop};
 ghost use Rattle.rules.specs.Saved.{stateIn, stateOctet, channelIn, channelOctet, delayIn, delayMark, delayTenths, pairIn};
-ghost use Rattle.rules.specs.Saved.{recordRoom, headRoom, configRoom, headIn, usedOctets, headOctets};
+ghost use Rattle.rules.specs.Saved.{recordRoom, headRoom, configRoom, headIn, usedOctets, headOctets, recordAt};
 ghost use Rattle.octets.specs.Patch.{patch};
-ghost use Rattle.saved.specs.Records.{recordAt, configSizeAt, configAt};
+ghost use Rattle.saved.specs.Records.{configSizeAt, configAt};
 
 fn state_in(octet: u8) -> State
     ensures { λ r. ⌜ r ≡ stateIn octet ⌝ }

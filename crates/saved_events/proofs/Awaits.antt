@@ -1,5 +1,5 @@
 -- Channel up over the records: what the heads show is what the endpoints show, and the first that awaits is moved.
-use Prim.Native.Nat.{ℕ, _+_, _*_, _≤_, _<_}
+use Prim.Native.Nat.{ℕ, _+_, _*_, _<_}
 use mathlib.Core.Path.{_≡_, sym, ap, ap₂, _∙_, subst}
 use mathlib.Core.List.{List}
 use mathlib.Core.Bool.{Bool, true, false}
@@ -7,16 +7,17 @@ use native.Mathlib.Decide.{decLt}
 use native.Mathlib.Omega.{arith}
 use lib.ListN.{length, set}
 use borrow.Author.Tests.{ne-eqb, eq-eqb}
-use Rattle.rules.specs.Endpoints.{Ends, endAt, isAwaited, awaiting, upIn, withChannel, movedBy}
-use Rattle.rules.specs.Saved.{recordRoom, headIn, headOctets, endsIn, storeEnds}
+use Rattle.rules.specs.Endpoints.{Ends, endAt, isAwaited, awaiting, upIn, withChannel}
+use Rattle.rules.specs.Saved.{recordRoom, headIn, headOctets, endsIn, storeEnds, recordAt}
 use Rattle.rules.specs.declared.Channel.the-variants.{Up}
 use Rattle.rules.specs.declared.Head.{Head}
 use Rattle.rules.proofs.ChannelUp.{NoneBefore, none-awaits, first-up, some-awaits}
 use Rattle.rules.proofs.SavedReads.{length-endsIn}
 use Rattle.octets.specs.Patch.{patch}
-use Rattle.saved.specs.Records.{recordAt, configSizeAt}
+use Rattle.saved.specs.Records.{configSizeAt}
 use Rattle.saved.specs.Held.{Held}
-use Rattle.saved.proofs.OneStore.{loaded-one, record-inside, head-moved}
+use Rattle.saved.proofs.OneStore.{loaded-one}
+use Rattle.saved.proofs.HeadMoved.{moved-stored}
 use Rattle.saved_events.specs.Events.{Turned, upped}
 
 -- the channel of record i
@@ -43,7 +44,7 @@ uppedAt i h l = patch (i * recordRoom) (headOctets (withChannel Up h) (configSiz
 pub up-here : (n i : ℕ) (l : List ℕ) → i < n → Held n l → NoneBefore (endsIn n l) i
     → isAwaited (headIn (recordAt i l) .channel) ≡ true
   → _≡_ {A = Turned} (record { number = 0; records = uppedAt i (headIn (recordAt i l)) l }) (upped n l)
-unfolding upped movedBy
+unfolding upped
 up-here n i l inside held before a =
     let ends = endsIn n l in
     let h = headIn (recordAt i l) in
@@ -51,8 +52,7 @@ up-here n i l inside held before a =
     let b : isAwaited (endAt ends i .head .channel) ≡ true = ap isAwaited (channel-shown n i l inside) ∙ a in
     let some = some-awaits ends i within b in
     let stored : uppedAt i h l ≡ storeEnds (upIn ends) l =
-          head-moved n i l inside held (withChannel Up h)
-          ∙ ap (λ e. storeEnds (set ends i e) l) (sym (ap (movedBy (withChannel Up)) (loaded-one n i l inside)))
+          moved-stored n i l inside held (withChannel Up)
           ∙ ap (λ (x : Ends). storeEnds x l) (sym (first-up ends i before within b)) in
     rw (ne-eqb (awaiting ends) 0 (λ z. omega arith)) (ap (λ (x : List ℕ). record { number = 0; records = x }) stored)
 
@@ -64,11 +64,6 @@ up-nowhere n i l e before =
     let ends = endsIn n l in
     let all : NoneBefore ends (length ends) = λ j h. before j (omega (arith, length-endsIn n l)) in
     rw (eq-eqb (awaiting ends) 0 (none-awaits ends all))
-
--- a record's place has room
-pub has-room : (n i : ℕ) (l m : List ℕ) → i < n → Held n l → m ≡ l → (i + 1) * recordRoom ≤ length m
-has-room n i l m inside held e =
-    subst (λ (x : List ℕ). (i + 1) * recordRoom ≤ length x) (sym e) (record-inside n i l inside held)
 
 -- the same from what the calls answer: h was got, h′ is h moved, and m is what was set
 pub up-done : (n i : ℕ) (l l₀ m : List ℕ) (h h′ : Head) (b : Bool) → i < n → Held n l₀ → NoneBefore (endsIn n l₀) i → l ≡ l₀

@@ -6,18 +6,17 @@ use mathlib.Core.Bool.{Bool, true, false}
 use lib.ListN.{length, set}
 use Rattle.rules.specs.Book.{bookNumber, bookOf}
 use Rattle.rules.specs.Endpoints.{Endpoint, endAt, isUp, forgotten, idleHead, idle}
-use Rattle.rules.specs.Saved.{recordRoom, headIn, headOctets, endsIn, storeEnds}
+use Rattle.rules.specs.Saved.{recordRoom, headIn, headOctets, endsIn, storeEnds, recordAt}
 use Rattle.rules.specs.declared.OurSeid.{OurSeid}
 use Rattle.rules.specs.declared.Head.{Head}
 use Rattle.octets.specs.Patch.{patch}
 use Rattle.book.specs.Places.{knownAt, placeIn, foundBy}
 use Rattle.book.specs.declared.places.Located.the-variants.{Unknown}
 use Rattle.book.proofs.Found.{found-as, placed}
-use Rattle.saved.specs.Records.{recordAt}
 use Rattle.saved.specs.Held.{Held}
-use Rattle.saved.proofs.OneStore.{loaded-one, head-emptied}
+use Rattle.saved.proofs.OneStore.{has-room, loaded-one, head-emptied}
 use Rattle.saved_events.specs.Events.{Turned, downedAt, downed}
-use Rattle.saved_events.proofs.Awaits.{channel-shown, has-room}
+use Rattle.saved_events.proofs.Awaits.{channel-shown}
 
 pub down-unknown : (s : OurSeid) (b l : List ℕ) → placeIn s b ≡ Unknown
   → _≡_ {A = Turned} (record { number = 10; records = l }) (downed s (bookOf b) l)

@@ -7,15 +7,14 @@ use native.Mathlib.Numerals.{add-one}
 use native.Mathlib.Omega.{arith}
 use lib.Dec.{lit≤}
 use lib.ListN.{length, take, drop, length-drop}
-use lib.Seq.{drop-append-add, length-take-le}
+use lib.Seq.{drop-append-add}
 use Rattle.rules.specs.Octets.{front}
 use Rattle.rules.specs.Endpoints.{forgotten, idleHead, idle}
-use Rattle.rules.specs.Saved.{recordRoom, headIn, endpointIn, headOctets, storeEnd, endsIn, storeEnds}
+use Rattle.rules.specs.Saved.{recordRoom, headIn, endpointIn, headOctets, storeEnd, endsIn, storeEnds, recordAt}
 use Rattle.rules.specs.declared.Head.{Head}
-use Rattle.rules.proofs.SavedReads.{end-length}
+use Rattle.rules.proofs.SavedReads.{end-length, first-room}
 use Rattle.octets.specs.Patch.{patch}
 use Rattle.octets.proofs.Patches.{patch-past, lent-front}
-use Rattle.saved.specs.Records.{recordAt}
 use Rattle.saved_events.specs.Events.{allIdle}
 
 -- the octets of an idle endpoint's head, with the SEID of a record
@@ -29,9 +28,6 @@ idle-record r = refl
 idle-long : (r : List ℕ) → length r ≡ recordRoom → length (storeEnd (forgotten (endpointIn r)) r) ≡ recordRoom
 unfolding forgotten idle
 idle-long r e = end-length (forgotten (endpointIn r)) r (lit≤ tt) e
-
-first-long : (i : ℕ) (l : List ℕ) → suc i * recordRoom ≤ length l → length (take recordRoom l) ≡ recordRoom
-first-long i l h = length-take-le recordRoom l (omega arith)
 
 head-fits : (h : Head) → length (headOctets h 0) ≤ recordRoom
 unfolding headOctets
@@ -47,7 +43,7 @@ one-idle zero l h =
 one-idle (suc i) l h =
     let x = storeEnd (forgotten (endpointIn (take recordRoom l))) (take recordRoom l) in
     let y = allIdle i (drop recordRoom l) in
-    let long : length x ≡ recordRoom = idle-long (take recordRoom l) (first-long (suc i) l h) in
+    let long : length x ≡ recordRoom = idle-long (take recordRoom l) (first-room (suc i) l h) in
     let at : suc i * recordRoom ≡ length x + i * recordRoom = omega arith in
     let behind : recordAt (suc i) (x ++ y) ≡ recordAt i y =
           ap (take recordRoom) (ap (λ (k : ℕ). drop k (x ++ y)) at ∙ drop-append-add x y (i * recordRoom)) in

@@ -10,7 +10,7 @@ use lib.Seq.{take-at, drop-at}
 use Rattle.rules.specs.Octets.{front}
 use Rattle.rules.specs.Book.{Book, bookNumber, entriesIn, bookOf}
 use Rattle.rules.specs.Endpoints.{Ends, idleHead, idle, freshEnds, freshConnection}
-use Rattle.rules.specs.Saved.{recordRoom, headOctets, storeEnd, storeEnds}
+use Rattle.rules.specs.Saved.{recordRoom, headOctets, storeEnd, storeEnds, recordAt}
 use Rattle.rules.specs.declared.OurSeid.{OurSeid}
 use Rattle.rules.specs.declared.Head.{Head}
 use Rattle.rules.proofs.SavedReads.{front-length}
@@ -18,7 +18,6 @@ use Rattle.octets.specs.Patch.{patch}
 use Rattle.octets.proofs.Patches.{lent-front}
 use Rattle.book.proofs.Entries.{RightEntries, right-head}
 use Rattle.book.proofs.Found.{entries-first, book-length}
-use Rattle.saved.specs.Records.{recordAt}
 
 -- ---- One record
 

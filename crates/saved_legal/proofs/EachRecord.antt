@@ -14,8 +14,7 @@ use Rattle.rules.specs.Book.{Entry, Book, entriesIn, bookOf}
 use Rattle.rules.specs.Endpoints.{isReported, isIdle, isAwaited, channelRight, takesDelay, delayRight, keepsNothing}
 use Rattle.rules.specs.Endpoints.{keepsSettings, legalEnd, legalEnds, awaiting}
 use Rattle.rules.specs.Saved.{recordRoom, headRoom, configRoom, unused, channelIn, headIn, configIn, endpointIn, recordRight}
-use Rattle.rules.specs.Saved.{endsIn}
-use Rattle.rules.specs.Saved.{recordsRight}
+use Rattle.rules.specs.Saved.{endsIn, recordsRight}
 use Rattle.rules.proofs.Tests.{and-l, and-r}
 use Rattle.octets.specs.Patch.{part}
 use Rattle.book.proofs.Found.{entryBy, entries-first, book-length}

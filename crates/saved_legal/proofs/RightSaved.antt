@@ -11,10 +11,8 @@ use borrow.Author.Tests.{leb-true, le-leb, lt-leb, eqb-true, eq-eqb, ne-eqb}
 use Rattle.rules.specs.Octets.{octetsIn}
 use Rattle.rules.specs.Book.{Book, bookNumber, bookOf}
 use Rattle.rules.specs.Endpoints.{legalEnds, awaiting, legalGathering, legal}
-use Rattle.rules.specs.Saved.{recordsPlace, recordRoom, areaFor, countIn, linkOf, recordsOf, endsIn, recordsRight}
-use Rattle.rules.specs.Saved.{gatheringIn}
-use Rattle.rules.specs.Saved.{gatheringOctetsRight}
-use Rattle.rules.specs.Saved.{connectionIn, savedRight}
+use Rattle.rules.specs.Saved.{recordsPlace, recordRoom, areaFor, countIn, linkOf, recordsOf, endsIn, recordsRight, gatheringIn}
+use Rattle.rules.specs.Saved.{gatheringOctetsRight, connectionIn, savedRight}
 use Rattle.rules.proofs.Tests.{and-l, and-r}
 use Rattle.rules.proofs.SavedReads.{octets-drop, gathering-room, records-room}
 use Rattle.packets_gather.specs.Rooms.{RoomRight}

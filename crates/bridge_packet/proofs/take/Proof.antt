@@ -10,8 +10,8 @@ use Rattle.packets_gather.proofs.Steps.{room-told}
 use Rattle.packets_gather.proofs.Done.{none-done}
 use Rattle.rules.proofs.SavedReads.{octets-known}
 use Rattle.bridge_packet.proofs.Halves.{behind-whole}
-use Rattle.bridge_packet.proofs.Taking.{room-right, nothing-done, single-header, single-serves, single-done}
-use Rattle.bridge_packet.proofs.Taking.{joined-serves, joined-done}
+use Rattle.bridge_packet.proofs.Taking.{room-right, nothing-done, single-header, single-serves, single-done, joined-serves}
+use Rattle.bridge_packet.proofs.Taking.{joined-done}
 use borrow.Author.Needs.{needs}
 use Rattle.bridge_packet.proofs.take.Statement.{statement}
 use Rattle.bridge_packet.proofs.take.Tie as tie

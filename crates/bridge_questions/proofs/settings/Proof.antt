@@ -5,8 +5,7 @@ use mathlib.Core.Path.{sym, ap, _∙_}
 use Rattle.rules.specs.Host.{Shown}
 use Rattle.bridge_refusals.proofs.Refusing.{Calm, calm}
 use Rattle.bridge_questions.proofs.Asked.{refused-shown, missing-shown, record-there, config-fits, offer-inside}
-use Rattle.bridge_questions.proofs.Asked.{offer-shown}
-use Rattle.bridge_questions.proofs.Asked.{config-shown}
+use Rattle.bridge_questions.proofs.Asked.{offer-shown, config-shown}
 use Rattle.bridge_questions.proofs.settings.Statement.{statement}
 use Rattle.bridge_questions.proofs.settings.Tie as tie
 

@@ -12,9 +12,8 @@ use Rattle.rules.specs.declared.Piece.{Piece}
 use Rattle.rules.proofs.ReadsBack.{HasRoom, count-small}
 use Rattle.octets.proofs.Patches.{part-length}
 use Rattle.packets_cut.proofs.Cutter.{size-small, size-large, size-right, Numbered, numbered, refuses, wrong-size}
-use Rattle.packets_cut.proofs.Cutter.{too-high}
-use Rattle.packets_cut.proofs.Cutter.{label-large, type-large, signal-large, header-small}
-use Rattle.packets_cut.proofs.Cutter.{from-within, too-short, writes}
+use Rattle.packets_cut.proofs.Cutter.{too-high, label-large, type-large, signal-large, header-small, from-within}
+use Rattle.packets_cut.proofs.Cutter.{too-short, writes}
 use Rattle.packets_cut.proofs.cut.Statement.{statement}
 use Rattle.packets_cut.proofs.cut.Tie as tie
 

@@ -12,8 +12,8 @@ use Rattle.rules.specs.Packets.{Message}
 use Rattle.rules.specs.Cutting.{countOf, packetAt}
 use Rattle.packets_gather.specs.Rooms.{RoomRight}
 use Rattle.packets_cut.proofs.Cutter.{size-right, packets-right}
-use Rattle.packets_echo.proofs.Turns.{Whole, some-packet, packet-small, Written, written, lent}
-use Rattle.packets_echo.proofs.Turns.{fresh, Back, Owed, turn-done, turn-on}
+use Rattle.packets_echo.proofs.Turns.{Whole, some-packet, packet-small, Written, written, lent, fresh, Back, Owed}
+use Rattle.packets_echo.proofs.Turns.{turn-done, turn-on}
 use Rattle.packets_echo.proofs.echo.Statement.{statement}
 use Rattle.packets_echo.proofs.echo.Tie as tie
 

@@ -8,8 +8,7 @@ use mathlib.Core.Path.{_≡_, _∙_}
 use mathlib.Core.List.{List, [], _∷_}
 use mathlib.Core.Option.{Option}
 use lib.ListN.{length, drop, getD}
-use Rattle.rules.specs.Packets.{Gathering, PacketType, aSingle, aStart, aContinue, anEnd, packetTypeIn, readAs, read}
-use Rattle.rules.specs.Packets.{packetIn}
+use Rattle.rules.specs.Packets.{Gathering, PacketType, aSingle, aStart, aContinue, anEnd, packetTypeIn, readAs, read, packetIn}
 use Rattle.rules.specs.Saved.{gatheringIn}
 use Rattle.packets_gather.specs.Nexts.{nextBy, nextOf}
 use Rattle.packets_gather.specs.declared.nexts.Next.{Next}

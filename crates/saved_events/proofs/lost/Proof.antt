@@ -5,7 +5,7 @@ use borrow.Author.Needs.{needs}
 use native.Mathlib.Omega.{arith}
 use lib.ListN.{length}
 use Rattle.saved_events.specs.Events.{allIdle}
-use Rattle.saved_events.proofs.Awaits.{has-room}
+use Rattle.saved.proofs.OneStore.{has-room}
 use Rattle.saved_events.proofs.Idles.{idle-turn, none-idle}
 use Rattle.saved_events.proofs.lost.Statement.{statement}
 use Rattle.saved_events.proofs.lost.Tie as tie

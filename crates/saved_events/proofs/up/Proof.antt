@@ -6,7 +6,8 @@ use borrow.Author.Needs.{needs}
 use native.Mathlib.Omega.{arith}
 use Rattle.rules.specs.Saved.{endsIn}
 use Rattle.rules.proofs.ChannelUp.{NoneBefore}
-use Rattle.saved_events.proofs.Awaits.{has-room, up-done, up-goes-on, up-never}
+use Rattle.saved.proofs.OneStore.{has-room}
+use Rattle.saved_events.proofs.Awaits.{up-done, up-goes-on, up-never}
 use Rattle.saved_events.proofs.up.Statement.{statement}
 use Rattle.saved_events.proofs.up.Tie as tie
 

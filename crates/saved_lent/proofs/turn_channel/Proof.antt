@@ -15,10 +15,9 @@ use prog.Wp.{Heap, Calls, Loops, WpFn, Tables}
 use ghost.Atoms.{Atoms, sem}
 use contract.Monad.{Fun, fact}
 use contract.Running.{givenOf, tables, tablesOf}
-use types.Kit.{Given, ‵, raw, _⊛_, some, later, _$_, _∵_, !, qed, by, move, keep, drop, use1, use2, split, join, pick}
-use types.Kit.{fsplit, fsplit3, fjoin, fjoin3, feqI, suffices, frame, await, done}
-use types.Run.{look, look-raw, init, store-raw, forget, stop, hop, from, load, unit-lit, and-then, no-more, of-opd, assigns}
-use types.Run.{land}
+use types.Kit.{Given, ‵, raw, _⊛_, some, later, _$_, _∵_, !, qed, by, move, keep, drop, use1, use2, split, join, pick, fsplit}
+use types.Kit.{fsplit3, fjoin, fjoin3, feqI, suffices, frame, await, done}
+use types.Run.{look, look-raw, init, store-raw, forget, stop, hop, from, load, unit-lit, and-then, no-more, of-opd, assigns, land}
 use types.Run.{returns, enter, alloc1, alloc0, params1, pass1, pass0, free1, free0}
 use types.SemTy.{Body}
 use sound.WpLaws.{FmC, fmOf, WpFn-mono}
@@ -36,8 +35,8 @@ use denote.Triple.Entry.{onEntry}
 use denote.Triple.Spec.{Meets, tripleOf}
 use denote.Triple.Table.{entered, cited}
 use denote.Triple.Clauses.{ensured, lasts}
-use denote.Triple.Walked.{says, Stays, stay-ref, stay-none, walkOf, AllGo, goes-none, goes-ref}
-use denote.Triple.Walked.{Walks, ends-at, walked, walk-meets}
+use denote.Triple.Walked.{says, Stays, stay-ref, stay-none, walkOf, AllGo, goes-none, goes-ref, Walks, ends-at, walked}
+use denote.Triple.Walked.{walk-meets}
 use denote.Exit.{yes}
 use Rattle.saved_lent.specs.Turned.{turnedHead}
 use Rattle.rules.specs.declared.Head.{Head}

@@ -20,8 +20,8 @@ use contract.Running.{givenOf, tables, tablesOf}
 use types.Kit.{Given, ‵, raw, _⊛_, some, given, later, _$_, _∵_, !, qed, by, move, keep, use1, use3, split, join, pick, learn}
 use types.Kit.{check, fjoin, feqL, suffices, frame, await, updating, now as at-once, done}
 use types.Tokens.{lft-new, lft-end}
-use types.Run.{look, init, forget, stop, from, load, and-then, no-more, of-opd, addr, assigns, land}
-use types.Run.{returns, enter, alloc1, alloc0, params1, pass1, pass0, free1, free0}
+use types.Run.{look, init, forget, stop, from, load, and-then, no-more, of-opd, addr, assigns, land, returns, enter, alloc1}
+use types.Run.{alloc0, params1, pass1, pass0, free1, free0}
 use types.SemTy.{Body}
 use sound.WpLaws.{FmC, fmOf, WpFn-mono}
 use denote.RattleType.{owns}

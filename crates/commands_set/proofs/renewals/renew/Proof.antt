@@ -6,8 +6,7 @@ use lib.ListN.{length, take}
 use lib.Seq.{length-take-le}
 use borrow.Author.Needs.{needs}
 use Rattle.saved.specs.Records.{configAt}
-use Rattle.commands_set.proofs.Anew.{renew-reads, copy-fits, copied, old-short, never, renew-keeps}
-use Rattle.commands_set.proofs.Anew.{renew-writes}
+use Rattle.commands_set.proofs.Anew.{renew-reads, copy-fits, copied, old-short, never, renew-keeps, renew-writes}
 use Rattle.commands_set.proofs.renewals.renew.Statement.{statement}
 use Rattle.commands_set.proofs.renewals.renew.Tie as tie
 

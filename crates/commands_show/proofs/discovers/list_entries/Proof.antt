@@ -11,8 +11,8 @@ use Rattle.rules.specs.Commands.{inUse}
 use Rattle.rules.proofs.RightBook.{right-book}
 use Rattle.octets.specs.Patch.{patch}
 use Rattle.book.proofs.Entries.{RightEntry}
-use Rattle.commands_show.proofs.Discovering.{Left, all-left, first-left, seid-left, rest-left}
-use Rattle.commands_show.proofs.Discovering.{octetsLeft, all, all-octets, octets-turn, octets-said}
+use Rattle.commands_show.proofs.Discovering.{Left, all-left, first-left, seid-left, rest-left, octetsLeft, all, all-octets}
+use Rattle.commands_show.proofs.Discovering.{octets-turn, octets-said}
 use Rattle.commands_show.proofs.discovers.list_entries.Statement.{statement}
 use Rattle.commands_show.proofs.discovers.list_entries.Tie as tie
 

@@ -5,11 +5,11 @@ use mathlib.Core.List.{List}
 use mathlib.Core.Bool.{Bool, true, false}
 use borrow.Author.Needs.{needs}
 use Rattle.rules.specs.Endpoints.{isUp, idleHead, inState}
-use Rattle.rules.specs.Saved.{recordRoom, headIn, headOctets}
+use Rattle.rules.specs.Saved.{recordRoom, headIn, headOctets, recordAt}
 use Rattle.rules.specs.declared.State.{State}
 use Rattle.rules.specs.declared.Head.{Head}
 use Rattle.octets.specs.Patch.{patch}
-use Rattle.saved.specs.Records.{recordAt, configSizeAt}
+use Rattle.saved.specs.Records.{configSizeAt}
 use Rattle.commands_stream.specs.Left.{leftBy, leftAt}
 use Rattle.commands_stream.proofs.leaves.leave.Statement.{statement}
 use Rattle.commands_stream.proofs.leaves.leave.Tie as tie
