@@ -2,7 +2,7 @@
 use book::places::Located;
 use rules::Head;
 use rules::OurSeid;
-use saved::moves::idle;
+use saved_moves::idle;
 use saved::parts::records_of;
 
 ghost use Rattle.bridge_questions.specs.Questions.{Finds};

@@ -7,7 +7,7 @@ use elements::walks::Walked;
 use rules::FarSeid;
 use rules::Rule;
 use commands_reply::Said;
-use saved::moves::settled;
+use saved_moves::settled;
 use saved::records::get;
 use saved_states::far_right;
 

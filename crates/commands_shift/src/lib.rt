@@ -28,7 +28,7 @@ fn shift_one(records: &mut [u8], index: usize, to: State)
           (now (records .entry)) ⌝ }
 {
     let h = saved::records::get(records, index);
-    saved::records::set_head(records, index, saved::moves::in_state(h, to));
+    saved::records::set_head(records, index, saved_moves::in_state(h, to));
 }
 
 fn shift(signal: Signal, to: State, book: &[u8], records: &mut [u8], payload: &[u8], reply: &mut [u8]) -> Said

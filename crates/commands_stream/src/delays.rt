@@ -1,7 +1,7 @@
 // 0D Delay Report: the delay in tenths of a millisecond, high octet first.
 use book::places::Place;
 use commands_reply::Said;
-use saved::moves::delayed;
+use saved_moves::delayed;
 use saved::records::config;
 use saved::records::get;
 use saved::records::set_head;

@@ -2,8 +2,8 @@
 use book::places::Place;
 use commands_reply::Said;
 use rules::State;
-use saved::moves::idle;
-use saved::moves::in_state;
+use saved_moves::idle;
+use saved_moves::in_state;
 use saved::records::get;
 use saved::records::set;
 use saved::records::set_head;

@@ -3,7 +3,7 @@ use book::places::Place;
 use commands_reply::Said;
 use rules::layout::CHANNEL;
 use rules::layout::RECORD;
-use saved::moves::opened;
+use saved_moves::opened;
 use saved::records::get;
 use saved::records::set_head;
 

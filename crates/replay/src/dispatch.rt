@@ -18,6 +18,7 @@ use replay_steps::overwrites;
 use replay_words::notes;
 use rules::Event;
 use rules::OurSeid;
+use rules::layout::LONGEST;
 
 // What holds from here on.
 fn settle(step: u8, n: usize, octets: &[u8], kept: Kept, book: &mut [u8], saved: &mut [u8]) -> Kept {
@@ -71,7 +72,7 @@ pub fn complain(explains: bool, k: usize, why: u8) {
 fn serve(k: usize, line: Line, octets: &[u8], kept: Kept, book: &mut [u8], saved: &mut [u8]) -> Kept {
     let numbers = line.numbers;
     ask(line.step, numbers, octets, kept, front(book, kept.book), saved);
-    let mut before = [0u8; 1801];
+    let mut before = [0u8; LONGEST];
     lay(&mut before, 0, saved);
     let why = change(line.why, line.step, numbers, octets, kept, front(book, kept.book), &before, saved);
     complain(kept.explains, k, why);

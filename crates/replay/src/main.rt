@@ -10,6 +10,7 @@ use replay_input::fewer;
 use replay_input::next;
 use replay_script::lines;
 use replay_reading::LONG;
+use rules::layout::LONGEST;
 
 // A line that was read: a step, nothing, or too long.
 fn finish(k: usize, line: &[u8], length: usize, kept: Kept, book: &mut [u8], saved: &mut [u8]) -> Kept {
@@ -40,7 +41,7 @@ fn main() {
     let mut input = [0u8; 16384];
     let mut line = [0u8; 8192];
     let mut book = [0u8; 2730];
-    let mut saved = [0u8; 1801];
+    let mut saved = [0u8; LONGEST];
     let kept = Kept { book: 0, records: 0, size: 672, area: 64, explains: false };
     replay(&mut input, &mut line, kept, &mut book, &mut saved);
 }

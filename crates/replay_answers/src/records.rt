@@ -17,19 +17,30 @@ use rules::layout::COUNT;
 use rules::layout::DELAY_HIGH;
 use rules::layout::DELAY_LOW;
 use rules::layout::DELAY_MARK;
+use rules::layout::ENDPOINTS;
 use rules::layout::FAR;
 use rules::layout::HEAD;
+use rules::layout::LABEL;
+use rules::layout::LENGTH_HIGH;
+use rules::layout::LENGTH_LOW;
 use rules::layout::LINK;
+use rules::layout::MARK;
+use rules::layout::MTYPE;
+use rules::layout::PACKETS;
+use rules::layout::PARTS;
+use rules::layout::PAYLOAD;
 use rules::layout::RECORD;
 use rules::layout::RECORDS;
 use rules::layout::SEID;
+use rules::layout::SIGNAL;
 use rules::layout::STATE;
+use rules::layout::UNUSED;
 
 // The place of record i; behind every area where a connection cannot have it.
 fn place(i: usize) -> usize
     ensures { λ r. ⌜ r ≤ 65536 ⌝ }
 {
-    if 15 < i {
+    if ENDPOINTS <= i {
         return 65536;
     }
     RECORDS + RECORD * i
@@ -53,7 +64,7 @@ fn has(slot: &[u8], seid: u8) -> bool {
     slot[SEID] == seid
 }
 
-// The index of the record of a SEID among the first `records`; 16 where there is none.
+// The index of the record of a SEID among the first `records`; ENDPOINTS where there is none.
 pub fn find(saved: &[u8], records: usize, seid: u8) -> usize {
     let mut i = 0;
     while i < records {
@@ -62,7 +73,7 @@ pub fn find(saved: &[u8], records: usize, seid: u8) -> usize {
         }
         i += 1;
     }
-    16
+    ENDPOINTS
 }
 
 // The configuration of a record.
@@ -143,32 +154,30 @@ pub fn write(
     config: &[u8],
 ) {
     let at = place(i);
-    let head = [
-        octet(state),
-        octet(channel),
-        octet(far),
-        marked(delay),
-        octet(tenths(delay) / 256),
-        octet(tenths(delay)),
-        octet(config.len()),
-    ];
-    lay(saved, at + STATE, &head);
+    let mut head = [0u8; UNUSED];
+    head[STATE] = octet(state);
+    head[CHANNEL] = octet(channel);
+    head[FAR] = octet(far);
+    head[DELAY_MARK] = marked(delay);
+    head[DELAY_HIGH] = octet(tenths(delay) / 256);
+    head[DELAY_LOW] = octet(tenths(delay));
+    head[CONFIG_LENGTH] = octet(config.len());
+    lay(saved, at + STATE, &head[STATE..]);
     lay(saved, at + HEAD, config);
 }
 
 // Overwrites the gathering: its label, message type, signal, count and parts, and its payload.
 pub fn write_gathering(saved: &mut [u8], numbers: [usize; 6], payload: &[u8]) {
     let length = payload.len();
-    let head = [
-        1,
-        octet(numbers[0]),
-        octet(numbers[1]),
-        octet(numbers[2]),
-        octet(numbers[3]),
-        octet(numbers[4]),
-        octet(length / 256),
-        octet(length),
-    ];
+    let mut head = [0u8; PAYLOAD];
+    head[MARK] = 1;
+    head[LABEL] = octet(numbers[0]);
+    head[MTYPE] = octet(numbers[1]);
+    head[SIGNAL] = octet(numbers[2]);
+    head[PACKETS] = octet(numbers[3]);
+    head[PARTS] = octet(numbers[4]);
+    head[LENGTH_HIGH] = octet(length / 256);
+    head[LENGTH_LOW] = octet(length);
     lay(saved, COUNT, &head);
-    lay(saved, COUNT + 8, payload);
+    lay(saved, COUNT + PAYLOAD, payload);
 }

@@ -12,12 +12,13 @@ use replay_script::numbers::wide;
 use replay_words::notes;
 use rules::OurSeid;
 use rules::Piece;
+use rules::layout::ENDPOINTS;
 use saved::records::channel_octet;
 use saved::records::state_octet;
 
 // The key of what settings are: the configuration of an endpoint that has one, or what it offers.
 fn settings_key(saved: &[u8], seid: u8) -> u8 {
-    let slot = records::record(saved, records::find(saved, 16, seid));
+    let slot = records::record(saved, records::find(saved, ENDPOINTS, seid));
     if records::config(slot).len() == 0 {
         return notes::OFFERED;
     }

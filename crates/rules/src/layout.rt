@@ -34,3 +34,7 @@ pub const PAYLOAD: usize = 8;
 // The count's place, and in the whole area the place of the gathering's mark.
 pub const COUNT_PLACE: usize = 0;
 pub const LINK_MARK: usize = COUNT + MARK;
+
+// A book has at most so many endpoints; what a connection over that many takes.
+pub const ENDPOINTS: usize = 16;
+pub const LONGEST: usize = RECORDS + ENDPOINTS * RECORD;

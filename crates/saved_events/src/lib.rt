@@ -60,7 +60,7 @@ pub fn lost(records: &mut [u8], count: usize)
     while i < count {
         let e = saved::records::get(records, i);
         let seid = e.seid;
-        saved::records::set(records, i, saved::moves::idle(seid), 0);
+        saved::records::set(records, i, saved_moves::idle(seid), 0);
         i += 1;
     }
 }

@@ -1,6 +1,6 @@
 // The records of a fresh connection: every endpoint of the book idle.
 use rules::OurSeid;
-use saved::moves::idle;
+use saved_moves::idle;
 
 ghost use mathlib.Core.Path.{_≡_};
 ghost use Prim.Native.Nat.{_*_, _≤_};

@@ -11,10 +11,10 @@ fn by_channel(e: Head, up: bool) -> Head
     ensures { λ r. ⌜ r ≡ turnedHead up e ⌝ }
 {
     if up {
-        saved::moves::up(e)
+        saved_moves::up(e)
     } else {
         let seid = e.seid;
-        saved::moves::idle(seid)
+        saved_moves::idle(seid)
     }
 }
 
