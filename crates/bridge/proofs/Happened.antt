@@ -25,7 +25,7 @@ use Rattle.rules.proofs.Places.{legal-length}
 use Rattle.rules.proofs.StaysLegal.{legal-ends, happens-legal}
 use Rattle.rules.proofs.SavedStaysRight.{right-legal}
 use Rattle.saved.specs.Held.{Held}
-use Rattle.saved_events.specs.Events.{Turned, upped, downed, downedAt, allIdle}
+use Rattle.saved_events.specs.Events.{MovedRecords, upped, downed, downedAt, allIdle}
 use Rattle.bridge.specs.Calls.{Happens}
 use Rattle.bridge_packet.proofs.Halves.{behind-whole, tail-back}
 use Rattle.bridge.proofs.Halves.{cleared-back}
@@ -87,11 +87,11 @@ module _ (book saved : List ℕ) where
       back = putMid recordsPlace (length saved - recordsPlace) saved m
 
       not-moved : happens (bookOf book) connection e ≡ record { number = 10; connection = connection }
-        → _≡_ {A = Turned} (record { number = number; records = m }) (record { number = 10; records = behind })
+        → _≡_ {A = MovedRecords} (record { number = number; records = m }) (record { number = 10; records = behind })
         → Happens book saved e number back
       unfolding eventCall numberOr recordsOf
       not-moved h t =
-          ap (λ (x : Turned). record
+          ap (λ (x : MovedRecords). record
               { number = x .number; saved = putMid recordsPlace (length saved - recordsPlace) saved (x .records) }) t
           ∙ ap (λ (x : List ℕ). record { number = 10; saved = x })
               (tail-back recordsPlace saved behind ∙ take-append-drop recordsPlace saved)
@@ -99,12 +99,13 @@ module _ (book saved : List ℕ) where
 
       moved : (ends : Ends)
         → happens (bookOf book) connection e ≡ record { number = 0; connection = withEnds ends connection }
-        → _≡_ {A = Turned} (record { number = number; records = m }) (record { number = 0; records = storeEnds ends behind })
+        → _≡_ {A = MovedRecords} (record { number = number; records = m })
+            (record { number = 0; records = storeEnds ends behind })
         → Happens book saved e number back
       unfolding eventCall numberOr store withEnds connectionIn recordsOf
       moved ends h t =
           let counted = same-count e (withEnds ends connection) (ap (λ (x : Moved). x .connection) h) in
-          ap (λ (x : Turned). record
+          ap (λ (x : MovedRecords). record
               { number = x .number; saved = putMid recordsPlace (length saved - recordsPlace) saved (x .records) }) t
           ∙ ap (λ (x : List ℕ). record { number = 0; saved = x })
               (tail-back recordsPlace saved (storeEnds ends behind)
@@ -113,7 +114,7 @@ module _ (book saved : List ℕ) where
 
     -- Channel up
     pub up-happens : (event : Event) (n number : ℕ) (m : List ℕ) → event ≡ Up → n ≡ length (bookOf book)
-      → _≡_ {A = Turned} (record { number = number; records = m }) (upped n lent)
+      → _≡_ {A = MovedRecords} (record { number = number; records = m }) (upped n lent)
       → Happens book saved event number (putMid recordsPlace (length saved - recordsPlace) saved m)
     unfolding upped happens connectionIn recordsOf
     up-happens event n number m is e t = go (told (eqb (awaiting ends) 0))
@@ -124,17 +125,17 @@ module _ (book saved : List ℕ) where
         this : happens (bookOf book) connection event ≡ happens (bookOf book) connection Up
         this = ap (happens (bookOf book) connection) is
 
-        turned : _≡_ {A = Turned} (record { number = number; records = m }) (upped (length (bookOf book)) behind)
-        turned = t ∙ rw (e, behind-whole recordsPlace saved)
+        stands : _≡_ {A = MovedRecords} (record { number = number; records = m }) (upped (length (bookOf book)) behind)
+        stands = t ∙ rw (e, behind-whole recordsPlace saved)
 
         go : Told? (eqb (awaiting ends) 0)
             → Happens book saved event number (putMid recordsPlace (length saved - recordsPlace) saved m)
-        go (passed p) = not-moved event number m (this ∙ rw p) (turned ∙ rw p)
-        go (failed p) = moved event number m (upIn ends) (this ∙ rw p) (turned ∙ rw p)
+        go (passed p) = not-moved event number m (this ∙ rw p) (stands ∙ rw p)
+        go (failed p) = moved event number m (upIn ends) (this ∙ rw p) (stands ∙ rw p)
 
     -- Channel down
     pub down-happens : (event : Event) (s : OurSeid) (number : ℕ) (m : List ℕ) → event ≡ Down s
-      → _≡_ {A = Turned} (record { number = number; records = m }) (downed s (bookOf book) lent)
+      → _≡_ {A = MovedRecords} (record { number = number; records = m }) (downed s (bookOf book) lent)
       → Happens book saved event number (putMid recordsPlace (length saved - recordsPlace) saved m)
     unfolding downed downedAt happens downAt connectionIn recordsOf
     down-happens event s number m is t = go (find s (bookOf book)) refl
@@ -145,18 +146,18 @@ module _ (book saved : List ℕ) where
         this : happens (bookOf book) connection event ≡ happens (bookOf book) connection (Down s)
         this = ap (happens (bookOf book) connection) is
 
-        turned : _≡_ {A = Turned} (record { number = number; records = m }) (downed s (bookOf book) behind)
-        turned = t ∙ rw (behind-whole recordsPlace saved)
+        stands : _≡_ {A = MovedRecords} (record { number = number; records = m }) (downed s (bookOf book) behind)
+        stands = t ∙ rw (behind-whole recordsPlace saved)
 
         by-channel : (i : ℕ) (n : Entry) → find s (bookOf book) ≡ known i n → Told? (isUp (endAt ends i .head .channel))
           → Happens book saved event number (putMid recordsPlace (length saved - recordsPlace) saved m)
         by-channel i n e (passed p) =
-            moved event number m (set ends i (forgotten (endAt ends i))) (this ∙ rw (e, p)) (turned ∙ rw (e, p))
-        by-channel i n e (failed p) = not-moved event number m (this ∙ rw (e, p)) (turned ∙ rw (e, p))
+            moved event number m (set ends i (forgotten (endAt ends i))) (this ∙ rw (e, p)) (stands ∙ rw (e, p))
+        by-channel i n e (failed p) = not-moved event number m (this ∙ rw (e, p)) (stands ∙ rw (e, p))
 
         go : (f : Found) → find s (bookOf book) ≡ f
             → Happens book saved event number (putMid recordsPlace (length saved - recordsPlace) saved m)
-        go unknown e = not-moved event number m (this ∙ rw e) (turned ∙ rw e)
+        go unknown e = not-moved event number m (this ∙ rw e) (stands ∙ rw e)
         go (known i n) e = by-channel i n e (told (isUp (endAt ends i .head .channel)))
 
     -- Link lost

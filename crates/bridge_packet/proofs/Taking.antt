@@ -14,7 +14,7 @@ use Rattle.rules.specs.Packets.{Message, gather}
 use Rattle.rules.specs.Endpoints.{Ends}
 use Rattle.rules.specs.Saved.{recordsPlace, areaFor, countIn, linkOf, recordsOf, gatheringAt, gatheringIn, endsIn, connectionIn}
 use Rattle.rules.specs.Saved.{store}
-use Rattle.rules.specs.Host.{nothingSaid, turnOf, takes, Answered}
+use Rattle.rules.specs.Host.{nothingSaid, handledBy, takes, Answered}
 use Rattle.rules.specs.declared.Header.{Header}
 use Rattle.packets_gather.specs.Nexts.{nextOf}
 use Rattle.packets_gather.specs.declared.nexts.Next.the-variants.{Single, Complete}
@@ -98,25 +98,25 @@ module _ (book : List ℕ) (size : ℕ) (saved p reply : List ℕ) (may : MayTak
   -- a message that is complete
   serves-it : (m : Message) → gather size (gatheringIn room) p .done ≡ some m
     → served book m (gatheredArea size saved p) reply ≡ takenOn book size saved p reply
-  unfolding served takenOn takes turnOf connectionIn store
+  unfolding served takenOn takes handledBy connectionIn store
   serves-it m e =
       let same =
         subst
           (λ (d : Option Message).
-            length (turnOf (bookOf book) ends (gather size (gatheringIn room) p .gathering) d .connection .ends)
+            length (handledBy (bookOf book) ends (gather size (gatheringIn room) p .gathering) d .connection .ends)
             ≡ length (bookOf book))
           e counted in
       rw (after-records, after-front (answer (bookOf book) ends m .ends) same)
         (ap
           (λ (done : Option Message).
-            let t = turnOf (bookOf book) ends (gather size (gatheringIn room) p .gathering) done in
+            let t = handledBy (bookOf book) ends (gather size (gatheringIn room) p .gathering) done in
             answered (t .told) (store (t .connection) saved) (front (t .payload) reply))
           (sym e))
 
   -- and where none is
   pub nothing-done : (told : Told) (after : List ℕ) → after ≡ gatheredArea size saved p → told ≡ nothingSaid 0
     → gather size (gatheringIn room) p .done ≡ none → answered told after reply ≡ takenOn book size saved p reply
-  unfolding gatheredArea withLink countIn takenOn takes turnOf connectionIn store
+  unfolding gatheredArea withLink countIn takenOn takes handledBy connectionIn store
   nothing-done told after g e f =
       let stored = ends-kept (length (bookOf book)) records (right .held .room) (right .held .right) (right .held .octets) in
       let first =
@@ -127,7 +127,7 @@ module _ (book : List ℕ) (size : ℕ) (saved p reply : List ℕ) (may : MayTak
       (λ k. answered (e k) ((g ∙ first) k) (sym (nothing-written reply) k))
       ∙ ap
           (λ (done : Option Message).
-            let t = turnOf (bookOf book) ends (gather size (gatheringIn room) p .gathering) done in
+            let t = handledBy (bookOf book) ends (gather size (gatheringIn room) p .gathering) done in
             answered (t .told) (store (t .connection) saved) (front (t .payload) reply))
           (sym f)
 

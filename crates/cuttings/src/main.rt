@@ -8,7 +8,7 @@ ghost use lib.ListN.{length};
 
 const LABEL: u8 = 5;
 
-const KIND: u8 = 2;
+const MTYPE: u8 = 2;
 
 const SIGNAL: u8 = 12;
 
@@ -69,7 +69,7 @@ fn header(index: usize, count: usize, last: bool, expected: &mut Area) -> usize
     requires { ⌜ count ≤ 255 ⌝ }
     ensures { λ r. ⌜ r ≤ 3 ⌝ }
 {
-    let single = LABEL * 16 + KIND;
+    let single = LABEL * 16 + MTYPE;
     if index != 0 {
         expected[0] = single + 8;
         if last {
@@ -117,7 +117,7 @@ fn differs(
     ensures { λ r. ⌜ r ≤ 1 ⌝ }
 {
     wipe(area);
-    let piece = packets_cut::cut(size, LABEL, KIND, SIGNAL, payload, index, area);
+    let piece = packets_cut::cut(size, LABEL, MTYPE, SIGNAL, payload, index, area);
     if piece.number != told.number {
         return 1;
     }

@@ -22,7 +22,7 @@ use Rattle.rules.specs.Endpoints.{Ends, Connection, isUp, awaiting, endA
 use Rattle.rules.specs.Saved.{areaFor, connectionIn, savedRight}
 use Rattle.rules.specs.Commands.{Reply, silence, generalReject, accept, reject, answer}
 use Rattle.rules.specs.Host.{checkCall, numberOr, savedNumber, refusalOf, packetRefusal, Kept, freshCall, said, toldOf}
-use Rattle.rules.specs.Host.{payloadOf, turnOf, takes, Answered, packetCall, eventCall, settingsOf, Shown, shownAt}
+use Rattle.rules.specs.Host.{payloadOf, handledBy, takes, Answered, packetCall, eventCall, settingsOf, Shown, shownAt}
 use Rattle.rules.specs.Host.{settingsCall, heardAt, delayCall, packetsCall, Cut, cutRefusal, cutCall, standingAt}
 use Rattle.rules.specs.Host.{statusCall}
 use Rattle.rules.specs.Sessions.{Call, check, fresh, packet, event, settings, delay, packets, cut, number, told, shown}
@@ -156,13 +156,13 @@ module _ (saved : List ℕ) (size : ℕ) (p reply next : List ℕ) where
   reply-listed m (reject q) small short =
       replied size p reply next (m .header .label) 3 (m .header .signal) q (small .label) refl (small .signal) short
 
-  turn-listed : (book : Book) (ends : Ends) (g : Option Gathering) (done : Option Message)
+  handled-listed : (book : Book) (ends : Ends) (g : Option Gathering) (done : Option Message)
       → ((m : Message) → done ≡ some m → Bounded m) → ((m : Message) → length (payloadOf (answer book ends m .reply)) ≤ 64)
-      → let t = turnOf book ends g done in
+      → let t = handledBy book ends g done in
         Listed saved (packet size p reply) (record { answer = told (t .told) (front (t .payload) reply); saved = next })
-  unfolding turnOf
-  turn-listed book ends g none small short = rw nothing-written (silent size p reply next)
-  turn-listed book ends g (some m) small short = reply-listed m (answer book ends m .reply) (small m refl) (short m)
+  unfolding handledBy
+  handled-listed book ends g none small short = rw nothing-written (silent size p reply next)
+  handled-listed book ends g (some m) small short = reply-listed m (answer book ends m .reply) (small m refl) (short m)
 
 module _ (b : List ℕ) (size : ℕ) (saved p reply : List ℕ) where
   packet-among : Among (bookNumbers ++ (8 ∷ 9 ∷ 12 ∷ [])) (packetRefusal b size saved reply)
@@ -183,7 +183,7 @@ module _ (b : List ℕ) (size : ℕ) (saved p reply : List ℕ) where
       let c = connectionIn (length book) saved in
       let s = gather size (c .link .gathering) p in
       let lawful = right-legal book saved (ok .right) in
-      turn-listed saved size p reply next book (c .ends) (s .gathering) (s .done)
+      handled-listed saved size p reply next book (c .ends) (s .gathering) (s .done)
         (λ m e. completed-bounded size (c .link .gathering) p m (legal-gathering book c lawful) e)
         (answer-short book (c .ends) (right-book b (ok .book)) (legal-ends book c lawful .every))
 

@@ -15,8 +15,8 @@ use Rattle.rules.specs.Cutting.{packetAt}
 use Rattle.rules.specs.Endpoints.{Ends, Connection}
 use Rattle.rules.specs.Saved.{connectionIn, store}
 use Rattle.rules.specs.Commands.{Reply, silence, generalReject, accept, reject, answer}
-use Rattle.rules.specs.Host.{nothingSaid, said, toldOf, payloadOf, Turn, turnOf, takes, packetRefusal, Answered, packetCall}
-use Rattle.rules.specs.Host.{cutRefusal, cutCall, Cut}
+use Rattle.rules.specs.Host.{nothingSaid, said, toldOf, payloadOf, Handled, handledBy, takes, packetRefusal, Answered}
+use Rattle.rules.specs.Host.{packetCall, cutRefusal, cutCall, Cut}
 use Rattle.rules.specs.Sessions.{Call, check, fresh, packet, event, settings, delay, packets, cut, told, cutOff, answered}
 use Rattle.rules.specs.Sessions.{asked, call, answers, after, status}
 use Rattle.rules.specs.Alike.{restrained, afterEvent, cleared, compared}
@@ -34,26 +34,26 @@ told-length m generalReject = refl
 told-length m (accept p) = refl
 told-length m (reject p) = refl
 
-turn-length : (book : Book) (ends : Ends) (g : Option Gathering) (m : Option Message)
-    → turnOf book ends g m .told .length ≡ length (turnOf book ends g m .payload)
-unfolding turnOf nothingSaid
-turn-length book ends g none = refl
-turn-length book ends g (some m) = told-length m (answer book ends m .reply)
+handled-length : (book : Book) (ends : Ends) (g : Option Gathering) (m : Option Message)
+    → handledBy book ends g m .told .length ≡ length (handledBy book ends g m .payload)
+unfolding handledBy nothingSaid
+handled-length book ends g none = refl
+handled-length book ends g (some m) = told-length m (answer book ends m .reply)
 
 pub takes-length : (book : Book) (size : ℕ) (c : Connection) (p : List ℕ)
     → takes book size c p .told .length ≡ length (takes book size c p .payload)
 unfolding takes
 takes-length book size c p =
-    turn-length book (c .ends) (gather size (c .link .gathering) p .gathering) (gather size (c .link .gathering) p .done)
+    handled-length book (c .ends) (gather size (c .link .gathering) p .gathering) (gather size (c .link .gathering) p .done)
 
 -- ---- packet: a number, and what the packet leads to
 
-unfoldable answeredBy : Bool → ℕ → Turn → List ℕ → List ℕ → Answered
+unfoldable answeredBy : Bool → ℕ → Handled → List ℕ → List ℕ → Answered
 answeredBy b number t saved reply =
     if b then record { told = t .told; saved = store (t .connection) saved; reply = front (t .payload) reply }
     else record { told = nothingSaid number; saved = saved; reply = reply }
 
-module _ (number : ℕ) (t : Turn) (saved reply reply′ : List ℕ) (long : t .told .length ≡ length (t .payload)) where
+module _ (number : ℕ) (t : Handled) (saved reply reply′ : List ℕ) (long : t .told .length ≡ length (t .payload)) where
   payload-read : (area : List ℕ) → take (t .told .length) (front (t .payload) area) ≡ t .payload
   payload-read area = ap (λ (k : ℕ). take k (front (t .payload) area)) long ∙ front-read (t .payload) area
 

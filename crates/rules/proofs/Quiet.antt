@@ -22,7 +22,7 @@ use Rattle.rules.specs.Packets.{Message, Gathering, sizeRight, gather}
 use Rattle.rules.specs.Endpoints.{Ends, Connection, freshConnection, isUp, endAt, awaiting, withEnds, Moved, downAt}
 use Rattle.rules.specs.Endpoints.{happens}
 use Rattle.rules.specs.Saved.{connectionIn}
-use Rattle.rules.specs.Host.{turnOf, takes, settingsOf, shownAt, heardAt, standingAt}
+use Rattle.rules.specs.Host.{handledBy, takes, settingsOf, shownAt, heardAt, standingAt}
 use Rattle.rules.specs.Sessions
 use Rattle.rules.specs.Sessions.{Call, check, fresh, packet, event, settings, delay, packets, cut, number, shown, heard}
 use Rattle.rules.specs.Sessions.{call, after, status, stands}
@@ -35,23 +35,23 @@ use Rattle.rules.specs.declared.Heard.{Heard}
 
 -- ---- One packet
 
-turn-same : {book book′ : Book} (ends : Ends) (g : Option Gathering) (m : Option Message) → AlikeBooks book book′
-    → usesIn m ≡ false → turnOf book ends g m ≡ turnOf book′ ends g m
-unfolding turnOf usesIn
-turn-same ends g none same unused = refl
-turn-same ends g (some m) same unused = rw (answer-same ends m same unused)
+handled-same : {book book′ : Book} (ends : Ends) (g : Option Gathering) (m : Option Message) → AlikeBooks book book′
+    → usesIn m ≡ false → handledBy book ends g m ≡ handledBy book′ ends g m
+unfolding handledBy usesIn
+handled-same ends g none same unused = refl
+handled-same ends g (some m) same unused = rw (answer-same ends m same unused)
 
-turn-quiet : (book : Book) (ends : Ends) (g : Option Gathering) (m : Option Message) → quietEnds ends ≡ true
-    → usesIn m ≡ false → quietEnds (turnOf book ends g m .connection .ends) ≡ true
-unfolding turnOf usesIn
-turn-quiet book ends g none q unused = q
-turn-quiet book ends g (some m) q unused = answer-quiet book ends m q unused
+handled-quiet : (book : Book) (ends : Ends) (g : Option Gathering) (m : Option Message) → quietEnds ends ≡ true
+    → usesIn m ≡ false → quietEnds (handledBy book ends g m .connection .ends) ≡ true
+unfolding handledBy usesIn
+handled-quiet book ends g none q unused = q
+handled-quiet book ends g (some m) q unused = answer-quiet book ends m q unused
 
-turn-gathering : (book : Book) (ends : Ends) (g : Option Gathering) (m : Option Message)
-    → turnOf book ends g m .connection .link .gathering ≡ g
-unfolding turnOf
-turn-gathering book ends g none = refl
-turn-gathering book ends g (some m) = refl
+handled-gathering : (book : Book) (ends : Ends) (g : Option Gathering) (m : Option Message)
+    → handledBy book ends g m .connection .link .gathering ≡ g
+unfolding handledBy
+handled-gathering book ends g none = refl
+handled-gathering book ends g (some m) = refl
 
 -- a packet is taken where it is refused with neither 8 nor 9
 packet-taken : (size : ℕ) (reply : List ℕ) → eqb (packetNumber size reply) 0 ≡ (sizeRight size && leb 64 (length reply))
@@ -129,12 +129,12 @@ module _ {book book′ : Book} (same : AlikeBooks book book′) (c : Connection)
       let s = gather size (c .link .gathering) p in
       let heeds : not (usesIn (s .done)) && restrained (s .gathering) calls ≡ true = rw (← packet-taken size reply, taken) at r in
       let unused = not-passed (usesIn (s .done)) (and-l (not (usesIn (s .done))) (restrained (s .gathering) calls) heeds) in
-      let turns = turn-same (c .ends) (s .gathering) (s .done) same unused in
+      let handled = handled-same (c .ends) (s .gathering) (s .done) same unused in
       record {
-        said = rw (taken, turns);
-        gone = rw (taken, turns);
-        still = rw taken (turn-quiet book (c .ends) (s .gathering) (s .done) q unused);
-        restrains = rw (taken, turn-gathering book (c .ends) (s .gathering) (s .done))
+        said = rw (taken, handled);
+        gone = rw (taken, handled);
+        still = rw taken (handled-quiet book (c .ends) (s .gathering) (s .done) q unused);
+        restrains = rw (taken, handled-gathering book (c .ends) (s .gathering) (s .done))
                       (and-r (not (usesIn (s .done))) (restrained (s .gathering) calls) heeds)
       }
   packet-paced size p reply (failed refused) r =

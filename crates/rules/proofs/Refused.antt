@@ -15,8 +15,8 @@ use Rattle.rules.specs.Cutting.{packetAt}
 use Rattle.rules.specs.Endpoints.{Ends, Connection, freshConnection, happens, endAt}
 use Rattle.rules.specs.Saved.{areaFor, connectionIn, store}
 use Rattle.rules.specs.Commands.{Reply, silence, generalReject, accept, reject, answer}
-use Rattle.rules.specs.Host.{numberOr, nothingSaid, said, toldOf, payloadOf, Turn, turnOf, takes, packetRefusal, Answered}
-use Rattle.rules.specs.Host.{packetCall, Kept, freshCall, eventCall, Shown, shownAt, settingsCall, heard, heardAt}
+use Rattle.rules.specs.Host.{numberOr, nothingSaid, said, toldOf, payloadOf, Handled, handledBy, takes, packetRefusal}
+use Rattle.rules.specs.Host.{Answered, packetCall, Kept, freshCall, eventCall, Shown, shownAt, settingsCall, heard, heardAt}
 use Rattle.rules.specs.Host.{delayCall, refusalOf, Cut, cutRefusal, cutCall, standingAt, statusCall, nowhere, standing}
 use Rattle.rules.specs.declared.OurSeid.{OurSeid}
 use Rattle.rules.specs.declared.Delay.{Delay}
@@ -66,17 +66,18 @@ answer-number m generalReject = refl
 answer-number m (accept p) = refl
 answer-number m (reject p) = refl
 
-turn-number : (book : Book) (ends : Ends) (g : Option Gathering) (m : Option Message) → turnOf book ends g m .told .number ≡ 0
-unfolding turnOf nothingSaid
-turn-number book ends g none = refl
-turn-number book ends g (some m) = answer-number m (answer book ends m .reply)
+handled-number : (book : Book) (ends : Ends) (g : Option Gathering) (m : Option Message)
+  → handledBy book ends g m .told .number ≡ 0
+unfolding handledBy nothingSaid
+handled-number book ends g none = refl
+handled-number book ends g (some m) = answer-number m (answer book ends m .reply)
 
 takes-number : (book : Book) (size : ℕ) (c : Connection) (p : List ℕ) → takes book size c p .told .number ≡ 0
 unfolding takes
-takes-number book size c p = turn-number book (c .ends) (gather size (c .link .gathering) p .gathering)
+takes-number book size c p = handled-number book (c .ends) (gather size (c .link .gathering) p .gathering)
     (gather size (c .link .gathering) p .done)
 
-packet-back : (number : ℕ) (t : Turn) (saved reply : List ℕ) → t .told .number ≡ 0
+packet-back : (number : ℕ) (t : Handled) (saved reply : List ℕ) → t .told .number ≡ 0
   → let a : Answered =
           if eqb number 0
           then record { told = t .told; saved = store (t .connection) saved; reply = front (t .payload) reply }
@@ -110,13 +111,13 @@ type-silent m generalReject e = refl
 type-silent m (accept p) e = absurd (omega arith)
 type-silent m (reject p) e = absurd (omega arith)
 
-turn-silent : (book : Book) (ends : Ends) (g : Option Gathering) (m : Option Message) → turnOf book ends g m .told .mtype ≡ 0
-  → turnOf book ends g m .payload ≡ []
-unfolding turnOf
-turn-silent book ends g none e = refl
-turn-silent book ends g (some m) e = type-silent m (answer book ends m .reply) e
+handled-silent : (book : Book) (ends : Ends) (g : Option Gathering) (m : Option Message)
+  → handledBy book ends g m .told .mtype ≡ 0 → handledBy book ends g m .payload ≡ []
+unfolding handledBy
+handled-silent book ends g none e = refl
+handled-silent book ends g (some m) e = type-silent m (answer book ends m .reply) e
 
-packet-silent : (number : ℕ) (t : Turn) (saved reply : List ℕ) → (t .told .mtype ≡ 0 → t .payload ≡ [])
+packet-silent : (number : ℕ) (t : Handled) (saved reply : List ℕ) → (t .told .mtype ≡ 0 → t .payload ≡ [])
   → let a : Answered =
           if eqb number 0
           then record { told = t .told; saved = store (t .connection) saved; reply = front (t .payload) reply }
@@ -139,7 +140,7 @@ unfolding packetCall takes
 silent-packet book size saved p reply =
     let c = connectionIn (length (bookOf book)) saved in
     packet-silent (packetRefusal book size saved reply) (takes (bookOf book) size c p) saved reply
-      (turn-silent (bookOf book) (c .ends) (gather size (c .link .gathering) p .gathering)
+      (handled-silent (bookOf book) (c .ends) (gather size (c .link .gathering) p .gathering)
         (gather size (c .link .gathering) p .done))
 
 -- ---- settings, delay and cut

@@ -11,7 +11,7 @@ use Rattle.rules.specs.Packets.{Message, Gathering, gather}
 use Rattle.rules.specs.Endpoints.{Ends, Connection, endAt, idle, legalEnd, legalEnds}
 use Rattle.rules.specs.Saved.{connectionIn, savedRight}
 use Rattle.rules.specs.Commands.{Reply, silence, generalReject, accept, reject, answer}
-use Rattle.rules.specs.Host.{toldOf, said, turnOf, takes, packetCall}
+use Rattle.rules.specs.Host.{toldOf, said, handledBy, takes, packetCall}
 use Rattle.rules.specs.Sessions.{Call, packet, Answer, number, told, shown, heard, counted, cutOff, call, answered, after}
 use Rattle.rules.specs.Sessions.{stands}
 use Rattle.rules.specs.Views.{Stepped, packetNumber, says, goes}
@@ -50,18 +50,18 @@ type-of m generalReject h = refl
 type-of m (accept p) h = absurd (h refl)
 type-of m (reject p) h = refl
 
-turn-unmoved : (book : Book) (ends : Ends) (g : Option Gathering) (m : Option Message) → shiftsIn m ≡ false
-  → (turnOf book ends g m .told .mtype ≡ 2 → ⊥) → turnOf book ends g m .connection .ends ≡ ends
-unfolding turnOf shiftsIn
-turn-unmoved book ends g none t h = refl
-turn-unmoved book ends g (some m) t h = unmoved book ends m t (type-of m (answer book ends m .reply) h)
+handled-unmoved : (book : Book) (ends : Ends) (g : Option Gathering) (m : Option Message) → shiftsIn m ≡ false
+  → (handledBy book ends g m .told .mtype ≡ 2 → ⊥) → handledBy book ends g m .connection .ends ≡ ends
+unfolding handledBy shiftsIn
+handled-unmoved book ends g none t h = refl
+handled-unmoved book ends g (some m) t h = unmoved book ends m t (type-of m (answer book ends m .reply) h)
 
 takes-unmoved : (book : Book) (size : ℕ) (c : Connection) (p : List ℕ)
   → shiftsIn (gather size (c .link .gathering) p .done) ≡ false
   → (takes book size c p .told .mtype ≡ 2 → ⊥) → takes book size c p .connection .ends ≡ c .ends
 unfolding takes
 takes-unmoved book size c p =
-    turn-unmoved book (c .ends) (gather size (c .link .gathering) p .gathering) (gather size (c .link .gathering) p .done)
+    handled-unmoved book (c .ends) (gather size (c .link .gathering) p .gathering) (gather size (c .link .gathering) p .done)
 
 -- the message type in an answer
 mtypeIn : Answer → ℕ

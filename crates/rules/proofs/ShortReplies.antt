@@ -20,7 +20,7 @@ use Rattle.rules.specs.Commands.{Reply, silence, generalReject, accept, 
 use Rattle.rules.specs.Commands.{lengthRight, ourIn, farIn, discovered, discover, offersAt, setAt, configurationAt}
 use Rattle.rules.specs.Commands.{reconfigureAt, openAt, shiftEach, shift, leaveAt, securityAt, delayAt, signalOf, obey}
 use Rattle.rules.specs.Commands.{answer}
-use Rattle.rules.specs.Host.{payloadOf, turnOf, takes}
+use Rattle.rules.specs.Host.{payloadOf, handledBy, takes}
 use Rattle.rules.specs.declared.Rule.the-variants.{Setting, Reconfiguring}
 use Rattle.rules.specs.declared.State.{State}
 use Rattle.rules.specs.declared.Signal.{Signal}
@@ -208,14 +208,14 @@ module _ (book : Book) (ends : Ends) (right : RightBook book) (h : legalEnds boo
       if-arms Short (eqb (m .header .mtype) 0) _ _ (λ t. obey-short (signalOf (m .header .signal)) (m .payload))
         (λ f. silence-short ends)
 
-  turn-of-short : (g : Option Gathering) (done : Option Message) → length (turnOf book ends g done .payload) ≤ 64
-  unfolding turnOf
-  turn-of-short g none = lit≤ tt
-  turn-of-short g (some m) = answer-short m
+  handled-short : (g : Option Gathering) (done : Option Message) → length (handledBy book ends g done .payload) ≤ 64
+  unfolding handledBy
+  handled-short g none = lit≤ tt
+  handled-short g (some m) = answer-short m
 
 pub reply-short : (book : Book) (size : ℕ) (c : Connection) (p : List ℕ) → RightBook book → legal book c ≡ true
     → length (takes book size c p .payload) ≤ 64
 unfolding takes
 reply-short book size c p right h =
     let s = gather size (c .link .gathering) p in
-    turn-of-short book (c .ends) right (legal-ends book c h .every) (s .gathering) (s .done)
+    handled-short book (c .ends) right (legal-ends book c h .every) (s .gathering) (s .done)

@@ -16,7 +16,7 @@ use Rattle.rules.specs.Endpoints.{Endpoint, Ends, Connection, idle, fres
 use Rattle.rules.specs.Endpoints.{isIdle, isReported, channelRight, keepsNothing, legalEnd, legalEnds, awaiting}
 use Rattle.rules.specs.Endpoints.{legalGathering, legal, withChannel, forgotten, endAt, Moved, upIn, withEnds, downAt}
 use Rattle.rules.specs.Endpoints.{happens, movedBy, freshLink}
-use Rattle.rules.specs.Host.{turnOf, takes}
+use Rattle.rules.specs.Host.{handledBy, takes}
 use Rattle.rules.specs.declared.State.the-variants.{Idle}
 use Rattle.rules.specs.declared.Channel.{Channel}
 use Rattle.rules.specs.declared.Channel.the-variants.{Absent, Awaited, Up}
@@ -67,18 +67,18 @@ fresh-legal book =
 
 -- ---- A packet
 
-turn-of-legal : (book : Book) (ends : Ends) (g : Option Gathering) (done : Option Message) → LegalEnds book ends
-    → legalGathering g ≡ true → legal book (turnOf book ends g done .connection) ≡ true
-unfolding turnOf
-turn-of-legal book ends g none h l = both-legal book (record { ends = ends; link = record { gathering = g } }) h l
-turn-of-legal book ends g (some m) h l = both-legal book _ (answer-legal book ends h m) l
+handled-legal : (book : Book) (ends : Ends) (g : Option Gathering) (done : Option Message) → LegalEnds book ends
+    → legalGathering g ≡ true → legal book (handledBy book ends g done .connection) ≡ true
+unfolding handledBy
+handled-legal book ends g none h l = both-legal book (record { ends = ends; link = record { gathering = g } }) h l
+handled-legal book ends g (some m) h l = both-legal book _ (answer-legal book ends h m) l
 
 pub takes-legal : (book : Book) (size : ℕ) (c : Connection) (p : List ℕ) → legal book c ≡ true
     → legal book (takes book size c p .connection) ≡ true
 unfolding takes
 takes-legal book size c p h =
     let s = gather size (c .link .gathering) p in
-    turn-of-legal book (c .ends) (s .gathering) (s .done) (legal-ends book c h)
+    handled-legal book (c .ends) (s .gathering) (s .done) (legal-ends book c h)
       (gather-right size (c .link .gathering) p (legal-gathering book c h) .gathering)
 
 -- ---- The link events

@@ -17,7 +17,7 @@ use Rattle.rules.specs.Endpoints.{Ends, Connection}
 use Rattle.rules.specs.Saved.{areaFor, connectionIn, savedRight}
 use Rattle.rules.specs.Commands.{Reply, silence, generalReject, accept, reject, rejects, Outcome, stays, signalOf, obey}
 use Rattle.rules.specs.Commands.{answer}
-use Rattle.rules.specs.Host.{toldOf, said, nothingSaid, payloadOf, turnOf, takes, packetCall, freshCall}
+use Rattle.rules.specs.Host.{toldOf, said, nothingSaid, payloadOf, handledBy, takes, packetCall, freshCall}
 use Rattle.rules.specs.Sessions.{packet, event, Answer, number, told, shown, heard, counted, cutOff, call, answered, after}
 use Rattle.rules.specs.Sessions.{stands}
 use Rattle.rules.specs.Views.{Stepped, packetNumber, says, goes}
@@ -142,17 +142,17 @@ module _ (b : List ℕ) (size : ℕ) (saved p reply : List ℕ) (ok : bookNumber
   module _ (t : eqb (packetNumber size reply) 0 ≡ true) where
     told-seen : packetCall b size saved p reply .told
         ≡ toldOf m (answer (bookOf b) (connectionIn (length (bookOf b)) saved .ends) m .reply)
-    unfolding call answered says takes turnOf toldIn
+    unfolding call answered says takes handledBy toldIn
     told-seen = ap toldIn (step .answer) ∙ rw (t, done)
 
     reply-seen : packetCall b size saved p reply .reply
         ≡ front (payloadOf (answer (bookOf b) (connectionIn (length (bookOf b)) saved .ends) m .reply)) reply
-    unfolding call answered says takes turnOf areaIn
+    unfolding call answered says takes handledBy areaIn
     reply-seen = ap areaIn (step .answer) ∙ rw (t, done)
 
     ends-seen : connectionIn (length (bookOf b)) (packetCall b size saved p reply .saved) .ends
         ≡ answer (bookOf b) (connectionIn (length (bookOf b)) saved .ends) m .ends
-    unfolding call answered goes takes turnOf
+    unfolding call answered goes takes handledBy
     ends-seen = ap (λ (c : Connection). c .ends) (step .next .shows) ∙ rw (t, done)
 
   -- A packet that completes a Start or a Suspend and is answered with a reject: what the saved octets show is exactly the

@@ -23,7 +23,7 @@ use Rattle.rules.specs.Commands.{isOpen, isStreaming, isSet, may, wrongS
 use Rattle.rules.specs.Commands.{discovered, discover, offersAt, settled, setAt, configurationAt, reconfigureAt, openAt}
 use Rattle.rules.specs.Commands.{shiftOne, shiftEach, shift, leaveAt, securityAt, delayAt, obey, answer}
 use Rattle.rules.specs.Host.{checkCall, numberOr, savedNumber, refusalOf, packetRefusal, freshCall, nothingSaid, said}
-use Rattle.rules.specs.Host.{toldOf, payloadOf, turnOf, takes, packetCall, eventCall, settingsOf, shownAt, settingsCall}
+use Rattle.rules.specs.Host.{toldOf, payloadOf, handledBy, takes, packetCall, eventCall, settingsOf, shownAt, settingsCall}
 use Rattle.rules.specs.Host.{heard, heardAt, delayCall, standing, nowhere, standingAt, statusCall, packetsCall, cutRefusal}
 use Rattle.rules.specs.Host.{cutCall}
 use Rattle.rules.specs.Sessions.{keeping, answered, asked, call, answers, after}
@@ -43,6 +43,6 @@ unfolding between sameOctets member isEmpty some-of each-of front headed itemsPa
     rejectsFault lengthRight ourIn farIn isConfigured isOpen isStreaming isSet may wrongState metAt meets preamble atMet
     named inUse discovered discover offersAt settled setAt configurationAt reconfigureAt openAt shiftOne shiftEach shift
     leaveAt securityAt delayAt obey answer checkCall numberOr savedNumber refusalOf packetRefusal freshCall nothingSaid
-    said toldOf payloadOf turnOf takes packetCall eventCall settingsOf shownAt settingsCall heard heardAt delayCall
+    said toldOf payloadOf handledBy takes packetCall eventCall settingsOf shownAt settingsCall heard heardAt delayCall
     standing nowhere standingAt statusCall packetsCall cutRefusal cutCall keeping answered asked call answers after
 computed = tt

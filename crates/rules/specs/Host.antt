@@ -83,15 +83,15 @@ payloadOf (accept p) = p
 payloadOf (reject p) = p
 
 -- What a packet leads to on a legal connection.
-pub record Turn : Type 0 where
+pub record Handled : Type 0 where
   pub told : Told
   pub payload : List ℕ
   pub connection : Connection
 
-unfoldable pub turnOf : Book → Ends → Option Gathering → Option Message → Turn
-turnOf book ends g none =
+unfoldable pub handledBy : Book → Ends → Option Gathering → Option Message → Handled
+handledBy book ends g none =
     record { told = nothingSaid 0; payload = []; connection = record { ends = ends; link = record { gathering = g } } }
-turnOf book ends g (some m) =
+handledBy book ends g (some m) =
     let o = answer book ends m in
     record {
       told = toldOf m (o .reply);
@@ -99,9 +99,9 @@ turnOf book ends g (some m) =
       connection = record { ends = o .ends; link = record { gathering = g } }
     }
 
-unfoldable pub takes : Book → ℕ → Connection → List ℕ → Turn
+unfoldable pub takes : Book → ℕ → Connection → List ℕ → Handled
 takes book size c packet =
-    let s = gather size (c .link .gathering) packet in turnOf book (c .ends) (s .gathering) (s .done)
+    let s = gather size (c .link .gathering) packet in handledBy book (c .ends) (s .gathering) (s .done)
 
 pub record Answered : Type 0 where
   pub told : Told

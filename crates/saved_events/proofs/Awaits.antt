@@ -18,7 +18,7 @@ use Rattle.saved.specs.Records.{configSizeAt}
 use Rattle.saved.specs.Held.{Held}
 use Rattle.saved.proofs.OneStore.{loaded-one}
 use Rattle.saved.proofs.HeadMoved.{moved-stored}
-use Rattle.saved_events.specs.Events.{Turned, upped}
+use Rattle.saved_events.specs.Events.{MovedRecords, upped}
 
 -- the channel of record i
 pub channel-shown : (n i : ℕ) (l : List ℕ) → i < n → endAt (endsIn n l) i .head .channel ≡ headIn (recordAt i l) .channel
@@ -43,7 +43,7 @@ uppedAt i h l = patch (i * recordRoom) (headOctets (withChannel Up h) (configSiz
 -- the first that awaits
 pub up-here : (n i : ℕ) (l : List ℕ) → i < n → Held n l → NoneBefore (endsIn n l) i
     → isAwaited (headIn (recordAt i l) .channel) ≡ true
-  → _≡_ {A = Turned} (record { number = 0; records = uppedAt i (headIn (recordAt i l)) l }) (upped n l)
+  → _≡_ {A = MovedRecords} (record { number = 0; records = uppedAt i (headIn (recordAt i l)) l }) (upped n l)
 unfolding upped
 up-here n i l inside held before a =
     let ends = endsIn n l in
@@ -58,7 +58,7 @@ up-here n i l inside held before a =
 
 -- none awaits
 pub up-nowhere : (n i : ℕ) (l : List ℕ) → i ≡ n → NoneBefore (endsIn n l) i
-  → _≡_ {A = Turned} (record { number = 10; records = l }) (upped n l)
+  → _≡_ {A = MovedRecords} (record { number = 10; records = l }) (upped n l)
 unfolding upped
 up-nowhere n i l e before =
     let ends = endsIn n l in
@@ -69,7 +69,7 @@ up-nowhere n i l e before =
 pub up-done : (n i : ℕ) (l l₀ m : List ℕ) (h h′ : Head) (b : Bool) → i < n → Held n l₀ → NoneBefore (endsIn n l₀) i → l ≡ l₀
   → h ≡ headIn (recordAt i l) → b ≡ isAwaited (h .channel) → b ≡ true → h′ ≡ withChannel Up h
   → m ≡ patch (i * recordRoom) (headOctets h′ (configSizeAt i l)) l
-  → _≡_ {A = Turned} (record { number = 0; records = m }) (upped n l₀)
+  → _≡_ {A = MovedRecords} (record { number = 0; records = m }) (upped n l₀)
 up-done n i l l₀ m h h′ b inside held before same got asked yes! moved stored =
     let got₀ : h ≡ headIn (recordAt i l₀) = got ∙ ap (λ (x : List ℕ). headIn (recordAt i x)) same in
     let awaits : isAwaited (headIn (recordAt i l₀) .channel) ≡ true = sym (ap (λ (x : Head). isAwaited (x .channel)) got₀)
@@ -86,5 +86,5 @@ up-goes-on n i l l₀ h b inside before same got asked left =
     one-more n i l₀ inside before (sym (ap (λ (x : Head). isAwaited (x .channel)) got₀) ∙ sym asked ∙ left)
 
 pub up-never : (n i : ℕ) (l l₀ : List ℕ) → i ≡ n → NoneBefore (endsIn n l₀) i → l ≡ l₀
-  → _≡_ {A = Turned} (record { number = 10; records = l }) (upped n l₀)
+  → _≡_ {A = MovedRecords} (record { number = 10; records = l }) (upped n l₀)
 up-never n i l l₀ e before same = ap (λ (x : List ℕ). record { number = 10; records = x }) same ∙ up-nowhere n i l₀ e before

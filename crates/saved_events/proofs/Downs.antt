@@ -15,11 +15,11 @@ use Rattle.book.specs.declared.places.Located.the-variants.{Unknown}
 use Rattle.book.proofs.Found.{found-as, placed}
 use Rattle.saved.specs.Held.{Held}
 use Rattle.saved.proofs.OneStore.{has-room, loaded-one, head-emptied}
-use Rattle.saved_events.specs.Events.{Turned, downedAt, downed}
+use Rattle.saved_events.specs.Events.{MovedRecords, downedAt, downed}
 use Rattle.saved_events.proofs.Awaits.{channel-shown}
 
 pub down-unknown : (s : OurSeid) (b l : List ℕ) → placeIn s b ≡ Unknown
-  → _≡_ {A = Turned} (record { number = 10; records = l }) (downed s (bookOf b) l)
+  → _≡_ {A = MovedRecords} (record { number = 10; records = l }) (downed s (bookOf b) l)
 unfolding downed downedAt foundBy
 down-unknown s b l e = rw (found-as s b Unknown e)
 
@@ -38,7 +38,7 @@ module _ (s : OurSeid) (b l : List ℕ) (i kind from size : ℕ) (right : bookNu
 
   pub down-done : (m : List ℕ) (h h′ : Head) (t : Bool) → h ≡ headIn (recordAt i l) → t ≡ isUp (h .channel) → t ≡ true
     → h′ ≡ idleHead (h .seid) → m ≡ patch (i * recordRoom) (headOctets h′ 0) l
-    → _≡_ {A = Turned} (record { number = 0; records = m }) (downed s (bookOf b) l)
+    → _≡_ {A = MovedRecords} (record { number = 0; records = m }) (downed s (bookOf b) l)
   unfolding downed downedAt foundBy forgotten idle
   down-done m h h′ t got asked up moved stored =
       let n = length (bookOf b) in
@@ -52,7 +52,7 @@ module _ (s : OurSeid) (b l : List ℕ) (i kind from size : ℕ) (right : bookNu
         (ap (λ (x : List ℕ). record { number = 0; records = x }) written)
 
   pub down-none : (h : Head) (t : Bool) → h ≡ headIn (recordAt i l) → t ≡ isUp (h .channel) → t ≡ false
-    → _≡_ {A = Turned} (record { number = 10; records = l }) (downed s (bookOf b) l)
+    → _≡_ {A = MovedRecords} (record { number = 10; records = l }) (downed s (bookOf b) l)
   unfolding downed downedAt foundBy
   down-none h t got asked left =
       rw (found-as s b (knownAt i kind from size) there, channel h got ∙ sym asked ∙ left)

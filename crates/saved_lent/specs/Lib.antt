@@ -1,1 +1,1 @@
-pub mod Turned
+pub mod Switched

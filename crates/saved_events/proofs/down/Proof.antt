@@ -25,8 +25,8 @@ get-requires c κs =
 is-up-requires : tie.Need-is-up-requires
 is-up-requires c κs = search needs
 
-turned-requires : tie.Need-turned-requires
-turned-requires c κs = search needs
+switched-requires : tie.Need-switched-requires
+switched-requires c κs = search needs
 
 set-requires : tie.Need-set-requires
 set-requires c κs =
@@ -52,8 +52,8 @@ returns c =
     down-done (start .args .seid) (start .args .book .now) (start .args .records .now) (told .located .given .0 .0 .index) _ _ _
       (start .pre .0) (start .pre .1) (sym (placed .locate .ensures) ∙ told .located .given .1)
       (was-set .set .last .0) (got .get .result)
-      (moved .turned .result) (asked .is-up .result) (got .get .ensures) (asked .is-up .ensures) (tested .if1 .taken)
-      (moved .turned .ensures) (was-set .set .ensures)
+      (moved .switched .result) (asked .is-up .result) (got .get .ensures) (asked .is-up .ensures) (tested .if1 .taken)
+      (moved .switched .ensures) (was-set .set .ensures)
 
 returns-2 : tie.Need-returns-2
 returns-2 c =
@@ -86,7 +86,7 @@ down-spec =
     enum-known-located
     get-requires
     is-up-requires
-    turned-requires
+    switched-requires
     set-requires
     same-length
     returns

@@ -30,8 +30,8 @@ get-requires c κs =
 is-awaited-requires : tie.Need-is-awaited-requires Inv-loop μ-loop
 is-awaited-requires c κs = search needs
 
-turned-requires : tie.Need-turned-requires Inv-loop μ-loop
-turned-requires c κs = search needs
+switched-requires : tie.Need-switched-requires Inv-loop μ-loop
+switched-requires c κs = search needs
 
 set-head-requires : tie.Need-set-head-requires Inv-loop μ-loop
 set-head-requires c κs =
@@ -58,9 +58,9 @@ returns c =
     let at-loop = in-loop .before in
     let start = at-loop .before .before in
     up-done (start .args .count) (at-loop .loop .i) (at-loop .loop .records) (start .args .records .now)
-      (was-set .set-head .last .0) (got .get .result) (moved .turned .result) (asked .is-awaited .result)
+      (was-set .set-head .last .0) (got .get .result) (moved .switched .result) (asked .is-awaited .result)
       (in-loop .loop-test .taken) (start .pre) (at-loop .loop .inv .2) (at-loop .loop .inv .0) (got .get .ensures)
-      (asked .is-awaited .ensures) (tested .if1 .taken) (moved .turned .ensures) (was-set .set-head .ensures)
+      (asked .is-awaited .ensures) (tested .if1 .taken) (moved .switched .ensures) (was-set .set-head .ensures)
 
 add-i : tie.Need-add-i Inv-loop μ-loop
 add-i c = omega arith
@@ -100,7 +100,7 @@ up-spec =
     loop-holds
     get-requires
     is-awaited-requires
-    turned-requires
+    switched-requires
     set-head-requires
     same-length
     returns

@@ -2,13 +2,13 @@
 use mathlib.Core.Path.{_≡_, sym, ap, _∙_}
 use mathlib.Core.Bool.{Bool, true, false}
 use borrow.Author.Needs.{needs}
-use Rattle.saved_lent.specs.Turned.{turnedHead}
+use Rattle.saved_lent.specs.Switched.{switchedHead}
 use Rattle.rules.specs.declared.Head.{Head}
 use Rattle.saved_lent.proofs.by_channel.Statement.{statement}
 use Rattle.saved_lent.proofs.by_channel.Tie as tie
 
-by-flag : (up b : Bool) (h r : Head) → up ≡ b → r ≡ turnedHead b h → r ≡ turnedHead up h
-by-flag up b h r told is = is ∙ ap (λ (x : Bool). turnedHead x h) (sym told)
+by-flag : (up b : Bool) (h r : Head) → up ≡ b → r ≡ switchedHead b h → r ≡ switchedHead up h
+by-flag up b h r told is = is ∙ ap (λ (x : Bool). switchedHead x h) (sym told)
 
 up-requires : tie.Need-up-requires
 up-requires c κs = search needs

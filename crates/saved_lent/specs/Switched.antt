@@ -4,6 +4,6 @@ use Rattle.rules.specs.Endpoints.{idleHead, withChannel}
 use Rattle.rules.specs.declared.Channel.the-variants.{Up}
 use Rattle.rules.specs.declared.Head.{Head}
 
-abbrev pub turnedHead : Bool → Head → Head
-turnedHead true h = withChannel Up h
-turnedHead false h = idleHead (h .seid)
+abbrev pub switchedHead : Bool → Head → Head
+switchedHead true h = withChannel Up h
+switchedHead false h = idleHead (h .seid)

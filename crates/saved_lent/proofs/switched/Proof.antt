@@ -1,5 +1,5 @@
--- `turned` meets its contract: a walk of its MIR, by hand. The local's cell is lent for a lifetime that is made for the call, and
--- once that is over it comes back at the last value that the contract of `turn_channel` says.
+-- `switched` meets its contract: a walk of its MIR, by hand. The local's cell is lent for a lifetime that is made for the call,
+-- and once that is over it comes back at the last value that the contract of `switch_channel` says.
 use mathlib.Core.Path.{_≡_, refl, sym, ap, subst}
 use mathlib.Core.Bool.{Bool}
 use Prim.Native.Nat.{ℕ}
@@ -41,19 +41,19 @@ use denote.Triple.Table.{entered, cited}
 use denote.Triple.Clauses.{ensured, lasts}
 use denote.Triple.Walked.{says, Stays, stay-none, walkOf, AllGo, goes-none, Walks, ends-at, walked, walk-meets}
 use denote.Exit.{yes}
-use Rattle.saved_lent.specs.Turned.{turnedHead}
+use Rattle.saved_lent.specs.Switched.{switchedHead}
 use Rattle.rules.specs.declared.Head.{Head}
 use Rattle.rules.proofs.Head as T
 use Rattle.rules.proofs.Head.Laws as T′
 use Rattle.saved_lent.proofs.HeadCells.{mach, Good, typed, into, out}
-use Rattle.saved_lent.proofs.turn_channel as called
-use Rattle.saved_lent.proofs.turn_channel.Symbol as called-def
-use Rattle.saved_lent.proofs.turn_channel.Symbol.{name as #called}
-use Rattle.saved_lent.proofs.turn_channel.Met as called-thm
-use Rattle.saved_lent.proofs.turned.Key.{name as #own}
-use Rattle.saved_lent.proofs.turned as own
-use Rattle.saved_lent.proofs.turned.Statement as stated
-use Rattle.saved_lent.proofs.turned.Code as code
+use Rattle.saved_lent.proofs.switch_channel as called
+use Rattle.saved_lent.proofs.switch_channel.Symbol as called-def
+use Rattle.saved_lent.proofs.switch_channel.Symbol.{name as #called}
+use Rattle.saved_lent.proofs.switch_channel.Met as called-thm
+use Rattle.saved_lent.proofs.switched.Key.{name as #own}
+use Rattle.saved_lent.proofs.switched as own
+use Rattle.saved_lent.proofs.switched.Statement as stated
+use Rattle.saved_lent.proofs.switched.Code as code
 
 abbrev stayed : Stays (own.ended .signature .params) (own.ended .kept)
 stayed = (stay-none (λ _. T.the-row) yes, (stay-none (λ _. bool) yes, tt))
@@ -73,18 +73,18 @@ module _ {M : Type 1} (𝓤 : URA M) (H : Heap 𝓤) (A : Atoms 𝓤) (at-mem : 
   -- of the callee's `ensured`: the last value under the name that was lent
   told : (l α : ℕ) (γ : GName) (h : Head) (up : Bool) (r : Unit {0})
       → ent 𝓤 (ensured 𝓤 H A called.ended (called.clauses 𝓤 H A at-mem run) (α ∷ [], tt) (lent l γ h, (up, tt)) tt r)
-        (A .res γ (T.the-row .coded .code (turnedHead up h)))
+        (A .res γ (T.the-row .coded .code (switchedHead up h)))
   told l α γ h up r = exE 𝓤 _ (λ ws.
       let L : SProp 𝓤 = sem 𝓤 H A (lasts called.ended (α ∷ [], tt) (lent l γ h, (up, tt)) ws) in
-      let E : SProp 𝓤 = fact 𝓤 (ws .0 ≡ turnedHead up h) in
-      fact-use 𝓤 (ws .0 ≡ turnedHead up h) (snd∗ 𝓤 L E) (λ e.
+      let E : SProp 𝓤 = fact 𝓤 (ws .0 ≡ switchedHead up h) in
+      fact-use 𝓤 (ws .0 ≡ switchedHead up h) (snd∗ 𝓤 L E) (λ e.
       subst (λ (w : Head). ent 𝓤 (sep 𝓤 L E) (A .res γ (T.the-row .coded .code w))) e
         (via 𝓤 L (fst∗ 𝓤 L E) (fst∗ 𝓤 (A .res γ (T.the-row .coded .code (ws .0))) (sep 𝓤 (emp 𝓤) (emp 𝓤))))))
 
 module _ {M : Type 1} (𝓤 : URA M) (H : Heap 𝓤) (A : Atoms 𝓤) (W : Given 𝓤 H A) (at-mem : Memory → SProp 𝓤) (run : Routine → Fun 𝓤)
     (h : Head) (up : Bool) (good : Good h) where
   abbrev h′ : Head
-  h′ = turnedHead up h
+  h′ = switchedHead up h
 
   abbrev at : List Val × (List Val × Unit {0})
   at = (mach h ∷ [], (vbool up ∷ [], tt))
@@ -186,11 +186,11 @@ meets 𝓤 H A W at-mem run 𝓣 known =
     (WpFn 𝓤 H (𝓣 .C) (𝓣 .Λ) code.function) (WpFn-mono 𝓤 H (W .laws) 𝓣 code.function)
     (walks 𝓤 H A W at-mem run (𝓣 .C) (𝓣 .Λ) (fmOf 𝓤 H (W .laws) 𝓣) known)
 
-pub turned-spec : {M : Type 1} → stated.statement M
+pub switched-spec : {M : Type 1} → stated.statement M
 unfolding code.routine tablesOf
-turned-spec 𝓤 H 𝓜 𝓖 𝓡 =
+switched-spec 𝓤 H 𝓜 𝓖 𝓡 =
     entered 𝓤 H (tripleOf 𝓤 H (𝓖 .A) own.signature (own.spec 𝓤 H (𝓖 .A) (𝓜 .mem) (𝓡 .run)))
     (tables 𝓤 H 𝓜 𝓡 code.env .C) (tables 𝓤 H 𝓜 𝓡 code.env .Λ) #own code.function (code.unfolded 𝓤 H 𝓜 𝓡)
     (meets 𝓤 H (𝓖 .A) (givenOf 𝓤 H 𝓜 𝓖) (𝓜 .mem) (𝓡 .run) (tablesOf 𝓤 H 𝓜 (tables 𝓤 H 𝓜 𝓡 code.env))
-    (cited 𝓤 H (Called 𝓤 H (𝓖 .A) (𝓜 .mem) (𝓡 .run)) 𝓜 𝓡 code.env #called called-def.routine code.calls-saved-lent·turn-channel
+    (cited 𝓤 H (Called 𝓤 H (𝓖 .A) (𝓜 .mem) (𝓡 .run)) 𝓜 𝓡 code.env #called called-def.routine code.calls-saved-lent·switch-channel
     (called-thm.met 𝓤 H 𝓜 𝓖 𝓡)))

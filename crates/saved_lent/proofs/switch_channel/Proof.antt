@@ -1,4 +1,4 @@
--- `turn_channel` meets its contract: a walk of its MIR, by hand. The borrow is opened, the head behind it is copied out and
+-- `switch_channel` meets its contract: a walk of its MIR, by hand. The borrow is opened, the head behind it is copied out and
 -- passed to `by_channel`, and the borrow is closed at the head that the call returned.
 use mathlib.Core.Path.{_≡_, refl}
 use mathlib.Core.Bool.{Bool}
@@ -38,7 +38,7 @@ use denote.Triple.Clauses.{ensured, lasts}
 use denote.Triple.Walked.{says, Stays, stay-ref, stay-none, walkOf, AllGo, goes-none, goes-ref, Walks, ends-at, walked}
 use denote.Triple.Walked.{walk-meets}
 use denote.Exit.{yes}
-use Rattle.saved_lent.specs.Turned.{turnedHead}
+use Rattle.saved_lent.specs.Switched.{switchedHead}
 use Rattle.rules.specs.declared.Head.{Head}
 use Rattle.rules.proofs.Head as T
 use Rattle.saved_lent.proofs.HeadCells.{mach, typed, seen}
@@ -46,10 +46,10 @@ use Rattle.saved_lent.proofs.by_channel as called
 use Rattle.saved_lent.proofs.by_channel.Symbol as called-def
 use Rattle.saved_lent.proofs.by_channel.Symbol.{name as #called}
 use Rattle.saved_lent.proofs.by_channel.Met as called-thm
-use Rattle.saved_lent.proofs.turn_channel.Key.{name as #own}
-use Rattle.saved_lent.proofs.turn_channel as own
-use Rattle.saved_lent.proofs.turn_channel.Statement as stated
-use Rattle.saved_lent.proofs.turn_channel.Code as code
+use Rattle.saved_lent.proofs.switch_channel.Key.{name as #own}
+use Rattle.saved_lent.proofs.switch_channel as own
+use Rattle.saved_lent.proofs.switch_channel.Statement as stated
+use Rattle.saved_lent.proofs.switch_channel.Code as code
 
 abbrev Arg : Type 0
 Arg = RefT Head × (Bool × Unit {0})
@@ -64,8 +64,9 @@ module _ {M : Type 1} (𝓤 : URA M) (H : Heap 𝓤) (A : Atoms 𝓤) (at-mem : 
 
   -- of the callee's `ensured`, the clause alone: it has no `&mut`, so what is said of last values is dropped
   told : (h : Head) (up : Bool) (r : Head)
-      → ent 𝓤 (ensured 𝓤 H A called.ended (called.clauses 𝓤 H A at-mem run) tt (h, (up, tt)) tt r) (fact 𝓤 (r ≡ turnedHead up h))
-  told h up r = exE 𝓤 _ (λ ws. snd∗ 𝓤 (sem 𝓤 H A (lasts called.ended tt (h, (up, tt)) ws)) (fact 𝓤 (r ≡ turnedHead up h)))
+      → ent 𝓤 (ensured 𝓤 H A called.ended (called.clauses 𝓤 H A at-mem run) tt (h, (up, tt)) tt r)
+          (fact 𝓤 (r ≡ switchedHead up h))
+  told h up r = exE 𝓤 _ (λ ws. snd∗ 𝓤 (sem 𝓤 H A (lasts called.ended tt (h, (up, tt)) ws)) (fact 𝓤 (r ≡ switchedHead up h)))
 
 module _ {M : Type 1} (𝓤 : URA M) (H : Heap 𝓤) (A : Atoms 𝓤) (W : Given 𝓤 H A) (at-mem : Memory → SProp 𝓤)
     (run : Routine → Fun 𝓤) (κ : Lft) (q : Share) (b o : ℕ) (γ : GName) (h : Head) (up : Bool) where
@@ -78,7 +79,7 @@ module _ {M : Type 1} (𝓤 : URA M) (H : Heap 𝓤) (A : Atoms 𝓤) (W : Given
   abbrev Post : Val → SProp 𝓤
   Post = walkOf 𝓤 H A own.ended stayed (own.clauses 𝓤 H A at-mem run) .post (((κ, tt), (q, tt), tt, x, at), tt)
 
-  exits : (r : Head) → r ≡ turnedHead up h
+  exits : (r : Head) → r ≡ switchedHead up h
       → ent 𝓤 (sep 𝓤 (A .obs γ (T.the-row .coded .code r)) (sep 𝓤 (A .bor κ (Body (mem T.the-row) b o γ)) (A .lft κ q)))
         (Post vunit)
   exits r e =
@@ -120,7 +121,7 @@ module _ {M : Type 1} (𝓤 : URA M) (H : Heap 𝓤) (A : Atoms 𝓤) (W : Given
         use1 W (later (some (λ (r : Head). (‵ ftrue ⊛ ‵ (T.the-row .own r (v ∷ [])))
           ⊛ raw (ensured 𝓤 H A called.ended (called.clauses 𝓤 H A at-mem run) tt (h, (up, tt)) tt r)))) (id⊢ 𝓤 _) $
         await ! tt $ pick ! (λ r. split ! $ move ! (1 ∷ []) $
-        use1 W (raw (fact 𝓤 (r ≡ turnedHead up h))) (told 𝓤 H A at-mem run h up r) $ heard ! (r ≡ turnedHead up h) (λ e.
+        use1 W (raw (fact 𝓤 (r ≡ switchedHead up h))) (told 𝓤 H A at-mem run h up r) $ heard ! (r ≡ switchedHead up h) (λ e.
         split ! $ drop ! $ peeks ! T.the-row (Is T.the-row) (shows 𝓤 H A T.the-row) r (v ∷ []) (λ is.
         land ! (from ! (stop !)) (init ! 7 refl (typed 𝓤 H A W r v is)) $
         -- [the new head's own; the old head's cell; the open borrow; obs; auth; _4; …; _3; …; _2; …; _1; …; _0; …; true]
@@ -155,9 +156,9 @@ meets 𝓤 H A W at-mem run 𝓣 known =
     (WpFn 𝓤 H (𝓣 .C) (𝓣 .Λ) code.function) (WpFn-mono 𝓤 H (W .laws) 𝓣 code.function)
     (walks 𝓤 H A W at-mem run (𝓣 .C) (𝓣 .Λ) (fmOf 𝓤 H (W .laws) 𝓣) known)
 
-pub turn-channel-spec : {M : Type 1} → stated.statement M
+pub switch-channel-spec : {M : Type 1} → stated.statement M
 unfolding code.routine tablesOf
-turn-channel-spec 𝓤 H 𝓜 𝓖 𝓡 =
+switch-channel-spec 𝓤 H 𝓜 𝓖 𝓡 =
     entered 𝓤 H (tripleOf 𝓤 H (𝓖 .A) own.signature (own.spec 𝓤 H (𝓖 .A) (𝓜 .mem) (𝓡 .run)))
     (tables 𝓤 H 𝓜 𝓡 code.env .C) (tables 𝓤 H 𝓜 𝓡 code.env .Λ) #own code.function (code.unfolded 𝓤 H 𝓜 𝓡)
     (meets 𝓤 H (𝓖 .A) (givenOf 𝓤 H 𝓜 𝓖) (𝓜 .mem) (𝓡 .run) (tablesOf 𝓤 H 𝓜 (tables 𝓤 H 𝓜 𝓡 code.env))
