@@ -16,8 +16,8 @@ use Rattle.rules.specs.Saved.{recordsPlace, areaFor, countIn, linkOf, recordsOf
 use Rattle.rules.specs.Saved.{store}
 use Rattle.rules.specs.Host.{nothingSaid, handledBy, takes, Answered}
 use Rattle.rules.specs.declared.Header.{Header}
-use Rattle.packets_gather.specs.Nexts.{nextOf}
-use Rattle.packets_gather.specs.declared.nexts.Next.the-variants.{Single, Complete}
+use Rattle.packets_next.specs.Nexts.{nextOf}
+use Rattle.packets_next.specs.declared.nexts.Next.the-variants.{Single, Complete}
 use Rattle.rules.proofs.SavedReads.{ends-kept, length-endsIn}
 use Rattle.rules.proofs.Refused.{nothing-written}
 use Rattle.rules.proofs.Places.{legal-length}
@@ -26,9 +26,9 @@ use Rattle.rules.proofs.SavedStaysRight.{right-legal}
 use Rattle.rules.specs.Commands.{answer}
 use Rattle.rules.specs.declared.Told.{Told}
 use Rattle.saved.specs.Serves.{Serves}
-use Rattle.packets_gather.specs.Rooms.{RoomRight}
-use Rattle.packets_gather.proofs.Rooms.{room-kept}
-use Rattle.packets_gather.proofs.Steps.{Singles, room-told}
+use Rattle.packets_next.specs.Rooms.{RoomRight}
+use Rattle.packets_next.proofs.Rooms.{room-kept}
+use Rattle.packets_next.proofs.Steps.{Singles, room-told}
 use Rattle.packets_gather.proofs.Done.{roomAfter, Assembled, assembled}
 use Rattle.saved_legal.proofs.RightSaved.{Right, right-saved, serves}
 use Rattle.bridge_packet.specs.Taken.{MayTake, Joins, withLink, joinedPayload, gatheredArea, served, takenOn}

@@ -1,5 +1,5 @@
 // A packet takenOn on a legal connection: it is gathered, and a message that it completes is answered.
-use packets_gather::nexts::Next;
+use packets_next::nexts::Next;
 use commands_reply::Said;
 use rules::Header;
 use rules::Told;
@@ -12,9 +12,9 @@ ghost use Prim.Native.Nat.{_≤_};
 ghost use lib.ListN.{length, take};
 ghost use Rattle.rules.specs.Saved.{recordsPlace, linkOf, recordsOf, gatheringIn};
 ghost use Rattle.rules.specs.Host.{nothingSaid, Answered};
-ghost use Rattle.packets_gather.specs.Nexts.{nextOf};
+ghost use Rattle.packets_next.specs.Nexts.{nextOf};
 ghost use Rattle.saved.specs.Serves.{Serves};
-ghost use Rattle.packets_gather.specs.Rooms.{RoomRight};
+ghost use Rattle.packets_next.specs.Rooms.{RoomRight};
 ghost use Rattle.bridge_packet.specs.Taken.{MayTake, Joins, spoken, joinedPayload, gatheredArea, served, takenOn};
 
 // A refusal, or silence, whose number is 0.

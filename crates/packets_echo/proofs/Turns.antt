@@ -21,8 +21,8 @@ use Rattle.rules.proofs.Pieces.{soFar, takes-single, takes-start, takes-next, t
 use Rattle.rules.proofs.ReadsBack.{HasRoom, counts, count-small, packets-fit, gather-packet}
 use Rattle.rules.proofs.RightMessages.{gather-right}
 use Rattle.octets.specs.Patch.{part}
-use Rattle.packets_gather.specs.Rooms.{RoomRight}
-use Rattle.packets_gather.proofs.Rooms.{stored-read, room-kept}
+use Rattle.packets_next.specs.Rooms.{RoomRight}
+use Rattle.packets_next.proofs.Rooms.{stored-read, room-kept}
 use Rattle.packets_cut.proofs.Cutter.{Numbered, cuts}
 use Rattle.packets_echo.specs.declared.Echoed.{Echoed}
 use Rattle.packets_echo.specs.Echoes.{echoedOf, payloadOn}

@@ -1,5 +1,5 @@
 // The cutter and the gathering, one after the other as they run: what is cut reads back.
-use packets_gather::nexts::Next;
+use packets_next::nexts::Next;
 use rules::Header;
 
 ghost use mathlib.Core.Path.{_≡_};
@@ -9,7 +9,7 @@ ghost use lib.ListN.{length};
 ghost use Rattle.rules.specs.Octets.{front};
 ghost use Rattle.rules.specs.Packets.{gather};
 ghost use Rattle.rules.specs.Saved.{gatheringIn, storeGathering};
-ghost use Rattle.packets_gather.specs.Rooms.{RoomRight};
+ghost use Rattle.packets_next.specs.Rooms.{RoomRight};
 ghost use Rattle.packets_echo.specs.Echoes.{echoedOf, payloadOn};
 
 // Whether a message is complete, and then its header and the length of its payload.

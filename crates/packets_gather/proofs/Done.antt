@@ -14,13 +14,13 @@ use Rattle.rules.specs.Octets.{front}
 use Rattle.rules.specs.Packets.{Message, Gathering, extended, gather}
 use Rattle.rules.specs.Saved.{gatheringRoom, gatheringAt, gatheringIn, storeGathering, payloadLengthIn}
 use Rattle.rules.specs.declared.Header.{Header}
-use Rattle.packets_gather.specs.Nexts.{nextOf, doneBy}
-use Rattle.packets_gather.specs.declared.nexts.Next.{Next}
-use Rattle.packets_gather.specs.declared.nexts.Next.the-variants.{Ended, Single, Begun, Grown, Complete}
-use Rattle.packets_gather.proofs.nexts.Next.{the-type}
-use Rattle.packets_gather.specs.Rooms.{RoomRight}
-use Rattle.packets_gather.proofs.Steps.{RoomTells, room-told}
-use Rattle.packets_gather.proofs.Rooms.{marked, room-kept}
+use Rattle.packets_next.specs.Nexts.{nextOf, doneBy}
+use Rattle.packets_next.specs.declared.nexts.Next.{Next}
+use Rattle.packets_next.specs.declared.nexts.Next.the-variants.{Ended, Single, Begun, Grown, Complete}
+use Rattle.packets_next.proofs.nexts.Next.{the-type}
+use Rattle.packets_next.specs.Rooms.{RoomRight}
+use Rattle.packets_next.proofs.Steps.{RoomTells, room-told}
+use Rattle.packets_next.proofs.Rooms.{marked, room-kept}
 
 -- the room as a packet leaves it
 abbrev pub roomAfter : ℕ → List ℕ → List ℕ → List ℕ

@@ -14,8 +14,9 @@ use Rattle.rules.specs.Packets.{messageFrom, extended, mtypeIn, signalIn}
 use Rattle.rules.specs.Saved.{gatheringRoom, gatheringAt, gatheringHead, storeGathering, payloadLengthIn}
 use Rattle.octets.specs.Patch.{patch}
 use Rattle.octets.proofs.Patches.{front-more}
-use Rattle.packets_gather.specs.Rooms.{begun, grown, withPart}
-use Rattle.packets_gather.proofs.Headers.{label-in}
+use Rattle.packets_next.specs.Rooms.{begun, grown}
+use Rattle.packets_gather.specs.Parts.{withPart}
+use Rattle.packets_next.proofs.Headers.{label-in}
 
 
 pub front-kept : (s d : List ℕ) (n : ℕ) → length s + n ≤ length d → front (s ++ take n (drop (length s) d)) d ≡ front s d

@@ -1,9 +1,8 @@
 // One gathering step for every packet, over the room that the gathering is saved in. The octets of a part go straight into that
 // room, once; a message that is whole in one packet is not copied at all.
-pub mod nexts;
-
-use crate::nexts::Next;
-use rules::Header;
+use packets_next::gathered;
+use packets_next::next;
+use packets_next::nexts::Next;
 use rules::layout::LABEL;
 use rules::layout::LENGTH_HIGH;
 use rules::layout::LENGTH_LOW;
@@ -16,118 +15,16 @@ use rules::layout::SIGNAL;
 
 ghost use mathlib.Core.Path.{_≡_};
 ghost use mathlib.Core.List.{_++_};
-ghost use mathlib.Core.Option.{Option, some};
+ghost use mathlib.Core.Option.{some};
 ghost use Prim.Native.Nat.{_+_, _≤_, _<_};
 ghost use lib.ListN.{length, drop, getD};
 ghost use Rattle.rules.specs.Octets.{front};
-ghost use Rattle.rules.specs.Packets.{Gathering, aSingle, aStart, labelIn, mtypeIn, readAs, gather as gatherOf};
+ghost use Rattle.rules.specs.Packets.{gather as gatherOf};
 ghost use Rattle.rules.specs.Saved.{gatheringRoom, markPlace, partsPlace, payloadLengthIn, gatheringAt, gatheringIn};
 ghost use Rattle.rules.specs.Saved.{storeGathering};
-ghost use Rattle.packets_gather.specs.Nexts.{nextFurther, nextBy, nextOf};
-ghost use Rattle.packets_gather.specs.Rooms.{RoomRight, begun, grown, withPart};
-
-// How many octets are gathered in the room.
-fn gathered(room: &[u8]) -> usize
-    requires { ⌜ 8 ≤ length (now room) ⌝ }
-    ensures { λ r. ⌜ r ≡ payloadLengthIn (now (room .entry)) ⌝ }
-{
-    room[LENGTH_HIGH] as usize * 256 + room[LENGTH_LOW] as usize
-}
-
-// What a packet that is a message by itself leads to, whatever is gathered.
-fn single(packet: &[u8]) -> Next
-    requires { ⌜ 1 ≤ length (now packet) ⌝ }
-    ensures { λ r. ⌜ ((g : Option Gathering)
-        → r ≡ nextBy g (readAs aSingle (getD (now (packet .entry)) 0 0) (drop 1 (now (packet .entry))))) ⌝ }
-{
-    // a header of 2 octets, and at most 512 behind it
-    if packet.len() < 2 {
-        return Next::Ended;
-    }
-    if 514 < packet.len() {
-        return Next::Ended;
-    }
-    Next::Single(Header {
-        label: packet[0] / 16,
-        mtype: packet[0] % 4,
-        signal: packet[1] % 64,
-    })
-}
-
-// What the first packet of several leads to, whatever is gathered.
-fn start(packet: &[u8]) -> Next
-    requires { ⌜ 1 ≤ length (now packet) ⌝ }
-    ensures { λ r. ⌜ ((g : Option Gathering)
-        → r ≡ nextBy g (readAs aStart (getD (now (packet .entry)) 0 0) (drop 1 (now (packet .entry))))) ⌝ }
-{
-    // a header of 3 octets with the packet count in the middle, and at most 512 behind it
-    if packet.len() < 3 {
-        return Next::Ended;
-    }
-    if packet[1] < 2 {
-        return Next::Ended;
-    }
-    if 515 < packet.len() {
-        return Next::Ended;
-    }
-    Next::Begun
-}
-
-// What a further packet leads to, a continue or the last.
-fn further(room: &[u8], packet: &[u8], last: bool) -> Next
-    requires { ⌜ RoomRight (now room) ⌝ }
-    requires { ⌜ 1 ≤ length (now packet) ⌝ }
-    ensures { λ r. ⌜ r ≡ nextFurther (gatheringIn (now (room .entry))) last (labelIn (getD (now (packet .entry)) 0 0))
-        (mtypeIn (getD (now (packet .entry)) 0 0)) (drop 1 (now (packet .entry))) ⌝ }
-{
-    if room[MARK] == 0 {
-        return Next::Ended;
-    }
-    if packet[0] / 16 != room[LABEL] {
-        return Next::Ended;
-    }
-    if packet[0] % 4 != room[MTYPE] {
-        return Next::Ended;
-    }
-    if 512 < gathered(room) + (packet.len() - 1) {
-        return Next::Ended;
-    }
-    let parts = room[PARTS] as usize + 1;
-    let count = room[PACKETS] as usize;
-    if last {
-        if parts == count {
-            return Next::Complete(Header {
-                label: room[LABEL],
-                mtype: room[MTYPE],
-                signal: room[SIGNAL],
-            });
-        }
-        return Next::Ended;
-    }
-    if parts < count {
-        return Next::Grown;
-    }
-    Next::Ended
-}
-
-// What a packet leads to. Nothing is written.
-pub fn next(room: &[u8], size: usize, packet: &[u8]) -> Next
-    requires { ⌜ RoomRight (now room) ⌝ }
-    ensures { λ r. ⌜ r ≡ nextOf size (gatheringIn (now (room .entry))) (now (packet .entry)) ⌝ }
-{
-    if packet.len() == 0 {
-        return Next::Ended;
-    }
-    if size < packet.len() {
-        return Next::Ended;
-    }
-    match packet[0] / 4 % 4 {
-        0 => single(packet),
-        1 => start(packet),
-        2 => further(room, packet, false),
-        _ => further(room, packet, true),
-    }
-}
+ghost use Rattle.packets_next.specs.Nexts.{nextOf};
+ghost use Rattle.packets_next.specs.Rooms.{RoomRight, begun, grown};
+ghost use Rattle.packets_gather.specs.Parts.{withPart};
 
 // Writes a part behind what is gathered, and how many parts and octets there are then.
 fn add_part(room: &mut [u8], parts: u8, before: usize, part: &[u8])

@@ -19,7 +19,8 @@ use Rattle.rules.proofs.Tests.{and-l, and-r}
 use Rattle.octets.specs.Patch.{part}
 use Rattle.book.proofs.Found.{entryBy, entries-first, book-length}
 use Rattle.rules.specs.declared.Head.{Head}
-use Rattle.saved_legal.specs.Legal.{settingsRight, usedRight, fourZero, awaitsIn, recordLegal, recordsLegal}
+use Rattle.saved_keeps.specs.Settings.{settingsRight}
+use Rattle.saved_legal.specs.Legal.{usedRight, fourZero, awaitsIn, recordLegal, recordsLegal}
 
 -- ---- One record
 

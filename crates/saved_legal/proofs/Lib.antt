@@ -1,4 +1,2 @@
-pub mod Keeping
 pub mod EachRecord
-pub mod OneRoom
 pub mod RightSaved

@@ -15,10 +15,11 @@ use Rattle.rules.specs.Saved.{recordsPlace, recordRoom, areaFor, countIn, linkO
 use Rattle.rules.specs.Saved.{gatheringOctetsRight, connectionIn, savedRight}
 use Rattle.rules.proofs.Tests.{and-l, and-r}
 use Rattle.rules.proofs.SavedReads.{octets-drop, gathering-room, records-room}
-use Rattle.packets_gather.specs.Rooms.{RoomRight}
+use Rattle.packets_next.specs.Rooms.{RoomRight}
 use Rattle.saved.specs.Held.{Held}
 use Rattle.saved.specs.Serves.{Serves}
-use Rattle.saved_legal.specs.Legal.{recordsLegal, roomLegal}
+use Rattle.saved_gathering.specs.Room.{roomLegal}
+use Rattle.saved_legal.specs.Legal.{recordsLegal}
 
 -- ---- The parts
 

@@ -1,24 +1,14 @@
--- The legality of a saved connection part by part, as the code tests it: an endpoint's settings, one record, all records with the
--- channels that they await, and the room of the gathering.
+-- The legality of the records part by part, as the code tests it: one record, and all records with the channels that they await.
 use Prim.Native.Nat.{ℕ, _+_}
 use mathlib.Core.List.{List}
-use mathlib.Core.Bool.{Bool, not, _&&_, _||_}
+use mathlib.Core.Bool.{Bool, _&&_, _||_}
 use lib.ListN.{getD}
 use lib.Dec.{leb, eqb}
 use Rattle.rules.specs.Octets.{if_then_else_}
-use Rattle.rules.specs.Elements.{items, has, couldStore}
-use Rattle.rules.specs.Book.{Entry, Book, isSource}
-use Rattle.rules.specs.Endpoints.{isReported, farRight, isAwaited, legalEnd, legalEnds, awaiting, legalGathering}
-use Rattle.rules.specs.Saved.{configRoom, channelIn, endpointIn, recordRight, endsIn, recordsRight, gatheringIn, statePlace}
-use Rattle.rules.specs.Saved.{gatheringOctetsRight, channelPlace, delayMarkPlace, delayHighPlace, delayLowPlace}
-use Rattle.rules.specs.Saved.{configLengthPlace}
-use Rattle.rules.specs.declared.FarSeid.{FarSeid}
-use Rattle.rules.specs.declared.Delay.{Delay}
-
--- what an endpoint keeps that is not idle, by the list and the kind of its entry
-unfoldable pub settingsRight : List ℕ → ℕ → FarSeid → List ℕ → Delay → Bool
-settingsRight caps kind far config delay =
-    farRight far && couldStore (items caps) config && (not (isReported delay) || (isSource kind && has 8 (items config)))
+use Rattle.rules.specs.Book.{Entry, Book}
+use Rattle.rules.specs.Endpoints.{isAwaited, legalEnd, legalEnds, awaiting}
+use Rattle.rules.specs.Saved.{configRoom, channelIn, endpointIn, recordRight, endsIn, recordsRight, statePlace, channelPlace}
+use Rattle.rules.specs.Saved.{delayMarkPlace, delayHighPlace, delayLowPlace, configLengthPlace}
 
 -- the channels that a record awaits, by its octet for the channel
 unfoldable pub awaitsIn : ℕ → ℕ
@@ -42,6 +32,3 @@ recordLegal n r = recordRight r && legalEnd n (endpointIn r)
 -- n records of the entries of a book, behind records that await some channels
 unfoldable pub recordsLegal : Book → ℕ → ℕ → List ℕ → Bool
 recordsLegal book n before l = recordsRight n l && legalEnds book (endsIn n l) && leb (before + awaiting (endsIn n l)) 1
-
-unfoldable pub roomLegal : List ℕ → Bool
-roomLegal room = gatheringOctetsRight room && legalGathering (gatheringIn room)

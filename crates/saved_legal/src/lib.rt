@@ -1,8 +1,6 @@
 // Whether a saved connection is one that the host may hand over, for octets of any length: number 12 where not. One pass over the
 // book and the records, of which there must be as many.
-mod settings;
 mod records;
-mod rooms;
 
 use book::places::count;
 use rules::layout::RECORD;
@@ -26,7 +24,7 @@ pub fn saved_right(book: &[u8], saved: &[u8]) -> bool
     if count_in(saved) as usize != entries {
         return false;
     }
-    if !rooms::room_legal(link_of(saved)) {
+    if !saved_gathering::room_legal(link_of(saved)) {
         return false;
     }
     records::records_legal(book, records_of(saved))

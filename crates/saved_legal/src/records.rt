@@ -1,6 +1,4 @@
 // The records of a saved connection, each against its entry of the book.
-use crate::settings::keeps_nothing;
-use crate::settings::keeps_settings;
 use book::places::count;
 use rules::Channel;
 use rules::OurSeid;
@@ -16,6 +14,8 @@ use rules::layout::RECORD;
 use rules::layout::STATE;
 use rules::layout::UNUSED;
 use saved::records::load;
+use saved_keeps::keeps_nothing;
+use saved_keeps::keeps_settings;
 use saved_states::is_absent;
 use saved_states::is_idle;
 use saved_states::is_up;

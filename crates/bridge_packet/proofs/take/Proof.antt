@@ -3,10 +3,10 @@ use mathlib.Core.Path.{_≡_, refl, sym, _∙_}
 use mathlib.Core.Bool.{true}
 use Rattle.rules.specs.Octets.{octetsIn}
 use Rattle.rules.specs.Saved.{linkOf, gatheringIn}
-use Rattle.packets_gather.specs.Nexts.{nextOf}
-use Rattle.packets_gather.specs.declared.nexts.Next.{Next}
-use Rattle.packets_gather.specs.declared.nexts.Next.the-variants.{Single, Complete}
-use Rattle.packets_gather.proofs.Steps.{room-told}
+use Rattle.packets_next.specs.Nexts.{nextOf}
+use Rattle.packets_next.specs.declared.nexts.Next.{Next}
+use Rattle.packets_next.specs.declared.nexts.Next.the-variants.{Single, Complete}
+use Rattle.packets_next.proofs.Steps.{room-told}
 use Rattle.packets_gather.proofs.Done.{none-done}
 use Rattle.rules.proofs.SavedReads.{octets-known}
 use Rattle.bridge_packet.proofs.Halves.{behind-whole}

@@ -10,7 +10,7 @@ use borrow.Author.Needs.{needs}
 use Rattle.rules.specs.Octets.{front}
 use Rattle.rules.specs.Packets.{Message}
 use Rattle.rules.specs.Cutting.{countOf, packetAt}
-use Rattle.packets_gather.specs.Rooms.{RoomRight}
+use Rattle.packets_next.specs.Rooms.{RoomRight}
 use Rattle.packets_cut.proofs.Cutter.{size-right, packets-right}
 use Rattle.packets_echo.proofs.Turns.{Whole, some-packet, packet-small, Written, written, lent, fresh, Back, Owed}
 use Rattle.packets_echo.proofs.Turns.{turn-done, turn-on}

@@ -11,14 +11,14 @@ use Rattle.rules.specs.Octets.{front}
 use Rattle.rules.specs.Packets.{Message, Step, gather}
 use Rattle.rules.specs.Saved.{gatheringIn, gatheringAt}
 use Rattle.rules.specs.declared.Header.{Header}
-use Rattle.packets_gather.specs.Nexts.{nextOf}
-use Rattle.packets_gather.specs.declared.nexts.Next.{Next}
-use Rattle.packets_gather.specs.declared.nexts.Next.the-variants.{Single, Complete}
+use Rattle.packets_next.specs.Nexts.{nextOf}
+use Rattle.packets_next.specs.declared.nexts.Next.{Next}
+use Rattle.packets_next.specs.declared.nexts.Next.the-variants.{Single, Complete}
 use Rattle.octets.specs.Patch.{patch, part}
 use Rattle.octets.proofs.Patches.{front-patch}
-use Rattle.packets_gather.specs.Rooms.{RoomRight}
-use Rattle.packets_gather.proofs.Headers.{behind}
-use Rattle.packets_gather.proofs.Steps.{Singles, RoomTells, room-told}
+use Rattle.packets_next.specs.Rooms.{RoomRight}
+use Rattle.packets_next.proofs.Headers.{behind}
+use Rattle.packets_next.proofs.Steps.{Singles, RoomTells, room-told}
 use Rattle.packets_gather.proofs.Done.{roomAfter, Assembled, assembled, none-done}
 use Rattle.packets_echo.specs.declared.Echoed.{Echoed}
 use Rattle.packets_echo.specs.Echoes.{echoedOf, payloadOn}

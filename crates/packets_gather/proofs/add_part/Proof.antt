@@ -7,7 +7,7 @@ use mathlib.Core.List.{List, [], _∷_, append-assoc}
 use lib.ListN.{length, take, drop, set, length-set}
 use lib.Seq.{sets-eq}
 use Rattle.octets.specs.Patch.{patch}
-use Rattle.packets_gather.specs.Rooms.{withPart}
+use Rattle.packets_gather.specs.Parts.{withPart}
 use Rattle.packets_gather.proofs.add_part.Statement.{statement}
 use Rattle.packets_gather.proofs.add_part.Tie as tie
 

@@ -9,8 +9,8 @@ use Rattle.rules.specs.Octets.{front}
 use Rattle.rules.specs.Saved.{gatheringAt, payloadLengthIn}
 use Rattle.octets.specs.Patch.{patch, part}
 use Rattle.octets.proofs.Patches.{front-patch, front-more}
-use Rattle.packets_gather.proofs.Headers.{behind, length-behind}
-use Rattle.packets_gather.proofs.Rooms.{payload-length}
+use Rattle.packets_next.proofs.Headers.{behind, length-behind}
+use Rattle.packets_next.proofs.Rooms.{payload-length}
 use Rattle.packets_gather.proofs.assemble.Statement.{statement}
 use Rattle.packets_gather.proofs.assemble.Tie as tie
 

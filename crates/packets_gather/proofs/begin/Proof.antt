@@ -3,7 +3,7 @@ use borrow.Author.Needs.{needs}
 use native.Mathlib.Omega.{arith}
 use mathlib.Core.Path.{_∙_}
 use lib.ListN.{length-set, length-drop}
-use Rattle.packets_gather.proofs.Headers.{behind, length-behind}
+use Rattle.packets_next.proofs.Headers.{behind, length-behind}
 use Rattle.packets_gather.proofs.Fronts.{begun-stored}
 use Rattle.packets_gather.proofs.begin.Statement.{statement}
 use Rattle.packets_gather.proofs.begin.Tie as tie

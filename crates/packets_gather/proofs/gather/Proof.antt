@@ -14,12 +14,12 @@ use lib.Seq.{set-split}
 use Rattle.rules.specs.Octets.{front}
 use Rattle.rules.specs.Packets.{Gathering, gather}
 use Rattle.rules.specs.Saved.{gatheringRoom, gatheringAt, gatheringIn, storeGathering, payloadLengthIn}
-use Rattle.packets_gather.specs.declared.nexts.Next.{Next}
-use Rattle.packets_gather.specs.declared.nexts.Next.the-variants.{Ended, Single, Begun, Grown, Complete}
-use Rattle.packets_gather.proofs.nexts.Next.{the-type}
-use Rattle.packets_gather.specs.Rooms.{RoomRight}
-use Rattle.packets_gather.proofs.Rooms.{marked, payload-length}
-use Rattle.packets_gather.proofs.Steps.{RoomTells, room-told}
+use Rattle.packets_next.specs.declared.nexts.Next.{Next}
+use Rattle.packets_next.specs.declared.nexts.Next.the-variants.{Ended, Single, Begun, Grown, Complete}
+use Rattle.packets_next.proofs.nexts.Next.{the-type}
+use Rattle.packets_next.specs.Rooms.{RoomRight}
+use Rattle.packets_next.proofs.Rooms.{marked, payload-length}
+use Rattle.packets_next.proofs.Steps.{RoomTells, room-told}
 use Rattle.packets_gather.proofs.gather.Statement.{statement}
 use Rattle.packets_gather.proofs.gather.Tie as tie
 

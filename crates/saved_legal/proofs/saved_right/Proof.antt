@@ -10,7 +10,8 @@ use Rattle.rules.specs.Book.{bookOf}
 use Rattle.rules.specs.Saved.{gatheringRoom, recordRoom, areaFor, countIn}
 use Rattle.rules.proofs.RightBook.{right-book}
 use Rattle.rules.proofs.SavedReads.{gathering-room, records-room}
-use Rattle.saved_legal.specs.Legal.{recordsLegal, roomLegal}
+use Rattle.saved_gathering.specs.Room.{roomLegal}
+use Rattle.saved_legal.specs.Legal.{recordsLegal}
 use Rattle.saved_legal.proofs.RightSaved.{too-short, count-wrong, room-wrong, records-decide}
 use Rattle.saved_legal.proofs.saved_right.Statement.{statement}
 use Rattle.saved_legal.proofs.saved_right.Tie as tie

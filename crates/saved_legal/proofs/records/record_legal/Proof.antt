@@ -10,7 +10,7 @@ use lib.ListN.{length, getD}
 use Rattle.rules.specs.Book.{Entry}
 use Rattle.rules.specs.Endpoints.{channelRight}
 use Rattle.rules.specs.Saved.{headRoom, recordRight}
-use Rattle.saved_legal.specs.Legal.{settingsRight}
+use Rattle.saved_keeps.specs.Settings.{settingsRight}
 use Rattle.saved_legal.proofs.EachRecord.{octets-wrong, seid-wrong, channel-wrong, idle-kept, other-kept, config-short}
 use Rattle.saved_legal.proofs.EachRecord.{part-short}
 use Rattle.saved_legal.proofs.records.record_legal.Statement.{statement}
