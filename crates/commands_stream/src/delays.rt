@@ -22,7 +22,7 @@ fn takes_delay(kind: u8, config: &[u8]) -> bool
     if kind / 8 % 2 != 0 {
         return false;
     }
-    elements::offers::offers(config, 0, 8, b"")
+    elements_offers::offers(config, 0, 8, b"")
 }
 
 pub fn delay_report(book: &[u8], records: &mut [u8], payload: &[u8], reply: &mut [u8], at: Place) -> Said

@@ -26,7 +26,7 @@ use Rattle.elements.specs.Marks.{noMarks, marked, marksFrom, seenAs, see
 use Rattle.elements.specs.Walks.{walkedAs, walkOf, checkOf, shortCodeOf}
 use Rattle.elements.specs.declared.marks.Marks.{Marks}
 use Rattle.elements.specs.declared.walks.Walked.the-variants.{Failed, Clean}
-use Rattle.elements.proofs.Categories.{known-not-0}
+use Rattle.elements_offers.proofs.Categories.{known-not-0}
 use Rattle.elements.proofs.Passing.{marked-passed, seen-marked, passed-last, marksBy, marks-by}
 
 -- ---- What the checks see

@@ -20,7 +20,7 @@ use Rattle.elements_reader.specs.declared.Element.the-variants.{End, Short, Who
 use Rattle.elements_reader.proofs.Stands.{behind}
 use Rattle.elements.specs.Marks.{noMarks, markOf, marked, isWhole, marksPast, marksFrom, seenAs, seenIn, LastMarked}
 use Rattle.elements.specs.declared.marks.Marks.{Marks}
-use Rattle.elements.proofs.Categories.{NoneOf, numberOf, known-number, known-not-0}
+use Rattle.elements_offers.proofs.Categories.{NoneOf, numberOf, known-number, known-not-0}
 
 -- ---- An element passed
 

@@ -1,8 +1,8 @@
 // An element by the rule of its list, and what a list lacks at its end.
 use crate::marks::mark;
 use crate::marks::Marks;
-use crate::offers::length_code;
-use crate::offers::offers;
+use elements_offers::length_code;
+use elements_offers::offers;
 use rules::Fault;
 use rules::Rule;
 

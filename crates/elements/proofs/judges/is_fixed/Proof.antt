@@ -9,7 +9,7 @@ use Rattle.rules.specs.Elements.{codec, delaying, strange, isStrange, fixed}
 use Rattle.rules.specs.declared.Rule.{Rule}
 use Rattle.rules.specs.declared.Rule.the-variants.{Offer, Setting, Reconfiguring}
 use Rattle.rules.proofs.Tests.{clash}
-use Rattle.elements.proofs.Categories.{numberOf, apart}
+use Rattle.elements_offers.proofs.Categories.{numberOf, apart}
 use Rattle.elements.proofs.judges.is_fixed.Statement.{statement}
 use Rattle.elements.proofs.judges.is_fixed.Tie as tie
 

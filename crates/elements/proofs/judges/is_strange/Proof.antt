@@ -6,7 +6,7 @@ use borrow.Author.Tests.{ltb-true, ltb-false}
 use Rattle.rules.specs.Elements.{categoryOf, isStrange}
 use Rattle.rules.proofs.Tests.{Told?, passed, failed, told}
 use Rattle.rules.proofs.AlikeStep.{above-is-strange}
-use Rattle.elements.proofs.Categories.{at-key, known-there}
+use Rattle.elements_offers.proofs.Categories.{at-key, known-there}
 use Rattle.elements.proofs.judges.is_strange.Statement.{statement}
 use Rattle.elements.proofs.judges.is_strange.Tie as tie
 

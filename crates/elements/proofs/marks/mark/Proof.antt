@@ -2,7 +2,7 @@
 use mathlib.Core.Path.{sym, ap}
 use Rattle.rules.specs.Elements.{categoryOf}
 use Rattle.elements.specs.Marks.{markOf}
-use Rattle.elements.proofs.Categories.{at-key, other-strange}
+use Rattle.elements_offers.proofs.Categories.{at-key, other-strange}
 use Rattle.elements.proofs.marks.mark.Statement.{statement}
 use Rattle.elements.proofs.marks.mark.Tie as tie
 

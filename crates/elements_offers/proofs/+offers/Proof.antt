@@ -17,14 +17,14 @@ use Rattle.elements_reader.specs.declared.Element.{Element}
 use Rattle.elements_reader.specs.declared.Element.the-variants.{End, Short, Whole}
 use Rattle.octets.specs.Patch.{part}
 use Rattle.elements_reader.proofs.Stands.{stands-whole, items-by}
-use Rattle.elements.proofs.offers.offers.Reads as offers
-use Rattle.elements.proofs.offers.offers.Kinds as offers-kinds
-use Rattle.elements.proofs.offers.+offers.Lts-offers as offers-lts
+use Rattle.elements_offers.proofs.offers.Reads as offers
+use Rattle.elements_offers.proofs.offers.Kinds as offers-kinds
+use Rattle.elements_offers.proofs.+offers.Lts-offers as offers-lts
 use Rattle.elements_reader.proofs.element_at.Reads as element-at-reads
-use Rattle.elements.proofs.offers.value_within.Reads as value-within-reads
+use Rattle.elements_offers.proofs.value_within.Reads as value-within-reads
 use Rattle.octets.proofs.part.Reads as part-reads
-use Rattle.elements.proofs.offers.+offers.{statement}
-use Rattle.elements.proofs.offers.+offers.Tie.{close}
+use Rattle.elements_offers.proofs.+offers.{statement}
+use Rattle.elements_offers.proofs.+offers.Tie.{close}
 
 module _ (l : List ℕ) (at c : ℕ) (v : List ℕ) where
   offered-by : {h : Element} → h ≡ elementAt l at → offered (itemsBy h l) c v ≡ offered (items (drop at l)) c v

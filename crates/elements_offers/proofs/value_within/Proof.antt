@@ -6,9 +6,9 @@ use mathlib.Core.List.{List}
 use mathlib.Core.Bool.{true}
 use Rattle.rules.specs.Elements.{Category, categoryOf, transport, reporting, recovery, protection, compression, multiplexing}
 use Rattle.rules.specs.Elements.{codec, delaying, strange, isStrange, valueWithin}
-use Rattle.elements.proofs.Categories.{at-key, numberOf, apart}
-use Rattle.elements.proofs.offers.value_within.Statement.{statement}
-use Rattle.elements.proofs.offers.value_within.Tie as tie
+use Rattle.elements_offers.proofs.Categories.{at-key, numberOf, apart}
+use Rattle.elements_offers.proofs.value_within.Statement.{statement}
+use Rattle.elements_offers.proofs.value_within.Tie as tie
 
 others : (c : ℕ) (v w : List ℕ) → (c ≡ 4 → ⊥) → (c ≡ 7 → ⊥) → true ≡ valueWithin (categoryOf c) v w
 unfolding valueWithin isStrange numberOf

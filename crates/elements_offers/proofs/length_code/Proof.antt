@@ -1,9 +1,9 @@
 -- `length_code` meets its contract: each arm is the code of the category that its number stands for, by the test of its length.
 use Rattle.rules.specs.Elements.{categoryOf, lengthCode}
 use borrow.Author.Tests.{lt-ltb, le-ltb, eq-eqb, ne-eqb}
-use Rattle.elements.proofs.Categories.{other-strange}
-use Rattle.elements.proofs.offers.length_code.Statement.{statement}
-use Rattle.elements.proofs.offers.length_code.Tie as tie
+use Rattle.elements_offers.proofs.Categories.{other-strange}
+use Rattle.elements_offers.proofs.length_code.Statement.{statement}
+use Rattle.elements_offers.proofs.length_code.Tie as tie
 
 returns : tie.Need-returns
 unfolding categoryOf lengthCode

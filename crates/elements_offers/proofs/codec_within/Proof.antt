@@ -11,8 +11,8 @@ use lib.Dec.{eqb}
 use lib.Bits.{bitAnd}
 use borrow.Author.Tests.{eq-eqb, ne-eqb}
 use Rattle.rules.specs.Elements.{bitsWithin, codecWithin}
-use Rattle.elements.proofs.offers.codec_within.Statement.{statement}
-use Rattle.elements.proofs.offers.codec_within.Tie as tie
+use Rattle.elements_offers.proofs.codec_within.Statement.{statement}
+use Rattle.elements_offers.proofs.codec_within.Tie as tie
 
 and-false : (b : Bool) → b && false ≡ false
 and-false true = refl
