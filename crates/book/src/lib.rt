@@ -1,3 +1,2 @@
-// The endpoint book: its check, and where it has a SEID.
-pub mod checks;
+// The endpoint book: how many entries it has, and where it has a SEID.
 pub mod places;

@@ -20,7 +20,7 @@ ghost use Rattle.bridge.specs.Calls.{Freshens, Takes, Happens, Cuts};
 pub fn check(book: &[u8]) -> u8
     ensures { λ r. ⌜ r ≡ checkCall (now (book .entry)) ⌝ }
 {
-    book::checks::check(book)
+    book_check::check(book)
 }
 
 // Begins: `saved` holds a fresh connection over the book, every endpoint idle and nothing gathered. An area too short is 12.

@@ -19,7 +19,7 @@ fn saved_number(book: &[u8], saved: &[u8]) -> u8
 pub fn refusal(book: &[u8], saved: &[u8]) -> u8
     ensures { λ r. ⌜ r ≡ refusalOf (now (book .entry)) (now (saved .entry)) ⌝ }
 {
-    let number = book::checks::check(book);
+    let number = book_check::check(book);
     if number != 0 {
         return number;
     }
@@ -30,7 +30,7 @@ pub fn refusal(book: &[u8], saved: &[u8]) -> u8
 pub fn packet_refusal(book: &[u8], size: usize, saved: &[u8], reply: &[u8]) -> u8
     ensures { λ r. ⌜ r ≡ packetRefusal (now (book .entry)) size (now (saved .entry)) (now (reply .entry)) ⌝ }
 {
-    let number = book::checks::check(book);
+    let number = book_check::check(book);
     if number != 0 {
         return number;
     }

@@ -4,9 +4,9 @@ use native.Mathlib.Omega.{arith}
 use mathlib.Core.Path.{_≡_, refl, sym, ap, _∙_}
 use lib.ListN.{length, drop, getD}
 use Rattle.rules.specs.Book.{entriesNumber}
 use Rattle.book.proofs.Entries.{entries-end, entries-go-on, none-left, some-left, RightEntry, right-entry}
-use Rattle.book.proofs.checks.entries_number.Statement.{statement}
-use Rattle.book.proofs.checks.entries_number.Tie as tie
+use Rattle.book_check.proofs.entries_number.Statement.{statement}
+use Rattle.book_check.proofs.entries_number.Tie as tie
 
 abbrev Inv-loop : tie.InvT-loop
 Inv-loop book left₀ at₀ before₀ left at before =

@@ -11,8 +11,8 @@ use Rattle.rules.specs.Octets.{if_then_else_, between, sameOctets}
 use Rattle.rules.specs.Book.{entriesNumber, bookNumber}
 use Rattle.rules.proofs.Tests.{between-both}
 use Rattle.octets.specs.Patch.{part}
-use Rattle.book.proofs.checks.check.Statement.{statement}
-use Rattle.book.proofs.checks.check.Tie as tie
+use Rattle.book_check.proofs.check.Statement.{statement}
+use Rattle.book_check.proofs.check.Tie as tie
 
 -- a part of the book was compared with a word
 compared : (from size : ℕ) (b l word : List ℕ) (r t : Bool) → l ≡ part from size b → r ≡ sameOctets l word → not r ≡ t

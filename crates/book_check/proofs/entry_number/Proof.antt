@@ -12,9 +12,9 @@ use Rattle.rules.specs.Octets.{if_then_else_}
 use Rattle.rules.specs.Elements.{items}
 use Rattle.rules.specs.Book.{kindRight, mediaType, listRight}
 use Rattle.octets.specs.Patch.{part}
 use Rattle.book.specs.Entries.{entryNumber}
-use Rattle.book.proofs.checks.entry_number.Statement.{statement}
-use Rattle.book.proofs.checks.entry_number.Tie as tie
+use Rattle.book_check.proofs.entry_number.Statement.{statement}
+use Rattle.book_check.proofs.entry_number.Tie as tie
 
 -- the list as it is lent to its check, and what that says
 part-short : (from size : ℕ) (b l : List ℕ) → l ≡ part from size b → size ≤ 64 → length l ≤ 65535
