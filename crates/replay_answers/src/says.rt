@@ -3,7 +3,7 @@
 use crate::octs::front;
 use crate::octs::lay;
 use libc::STDOUT_FILENO;
-use replay_script::hexes::spell;
+use replay_hexes::spell;
 use replay_script::lines::part;
 use replay_script::lines::rest;
 use replay_script::tables::said;

@@ -4,7 +4,6 @@
 // and what stands at the end is
 //   .  nothing                   *  octets, parted by blanks     p  the same, at most 512
 //   k  a dash, or 1 to 64 octets that are not parted
-use replay_script::hexes;
 use replay_script::lines::next;
 use replay_script::lines::rest;
 use replay_script::lines::word;
@@ -120,24 +119,24 @@ fn config(text: &[u8], data: &mut [u8]) -> usize {
     if octets::same(text, b"-") {
         return 0;
     }
-    let count = hexes::count(text, false);
+    let count = replay_hexes::count(text, false);
     if count == 0 {
         return NONE;
     }
     if 64 < count {
         return NONE;
     }
-    hexes::read(text, false, count, data);
+    replay_hexes::read(text, false, count, data);
     count
 }
 
 // At most so many octets, parted by blanks: how many, NONE where the text is something else.
 fn parted(text: &[u8], most: usize, data: &mut [u8]) -> usize {
-    let count = hexes::count(text, true);
+    let count = replay_hexes::count(text, true);
     if most < count {
         return NONE;
     }
-    hexes::read(text, true, count, data);
+    replay_hexes::read(text, true, count, data);
     count
 }
 

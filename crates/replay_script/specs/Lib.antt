@@ -1,5 +1,4 @@
 pub mod Lines
 pub mod Numbers
-pub mod Hexes
 pub mod Names
 pub mod Tables

@@ -1,6 +1,5 @@
-// The words of a script, and how answers are spelled. No function asks anything of its caller.
+// The words of a script. No function asks anything of its caller.
 pub mod lines;
 pub mod numbers;
-pub mod hexes;
 pub mod tables;
 pub mod names;

@@ -11,9 +11,9 @@ use borrow.Author.Tests.{lt-ltb, le-ltb}
 use lib.ListN.{length, drop, getD, set, length-set, length-append}
 use lib.Seq.{drop-cons, set-at, append-snoc}
 use Rattle.octets.specs.Patch.{patch}
-use Rattle.replay_script.specs.Hexes.{octetAt, placeOf, octetsRead, readInto}
-use Rattle.replay_script.proofs.hexes.read.Statement.{statement}
-use Rattle.replay_script.proofs.hexes.read.Tie as tie
+use Rattle.replay_hexes.specs.Hexes.{octetAt, placeOf, octetsRead, readInto}
+use Rattle.replay_hexes.proofs.read.Statement.{statement}
+use Rattle.replay_hexes.proofs.read.Tie as tie
 
 read-length : (t : Bool) (s : List ℕ) (k : ℕ) → length (octetsRead t s k) ≡ k
 unfolding octetsRead

@@ -4,10 +4,10 @@ use mathlib.Core.Path.{_≡_}
 use mathlib.Core.Bool.{Bool, true, false}
 use borrow.Author.Needs.{needs}
 use borrow.Author.Tests.{eq-eqb, ne-eqb}
 use Rattle.replay_script.specs.Numbers.{none}
-use Rattle.replay_script.specs.Hexes.{wholeOf}
-use Rattle.replay_script.proofs.hexes.whole.Statement.{statement}
-use Rattle.replay_script.proofs.hexes.whole.Tie as tie
+use Rattle.replay_hexes.specs.Hexes.{wholeOf}
+use Rattle.replay_hexes.proofs.whole.Statement.{statement}
+use Rattle.replay_hexes.proofs.whole.Tie as tie
 
 empty : (n : ℕ) (t : Bool) → n ≡ 0 → 0 ≡ wholeOf t n
 unfolding wholeOf

@@ -3,9 +3,9 @@ use Prim.Native.Nat.{ℕ, _*_}
 use mathlib.Core.Path.{_≡_}
 use mathlib.Core.Bool.{Bool, true, false}
 use borrow.Author.Needs.{needs}
-use Rattle.replay_script.specs.Hexes.{placeOf}
-use Rattle.replay_script.proofs.hexes.place.Statement.{statement}
-use Rattle.replay_script.proofs.hexes.place.Tie as tie
+use Rattle.replay_hexes.specs.Hexes.{placeOf}
+use Rattle.replay_hexes.proofs.place.Statement.{statement}
+use Rattle.replay_hexes.proofs.place.Tie as tie
 
 parted-place : (k : ℕ) (t : Bool) → t ≡ true → k * 3 ≡ placeOf t k
 unfolding placeOf

@@ -6,9 +6,9 @@ use borrow.Author.Needs.{needs}
 use borrow.Author.Tests.{lt-ltb, le-ltb}
 use lib.Dec.{ltb}
 use Rattle.rules.specs.Octets.{if_then_else_}
-use Rattle.replay_script.specs.Hexes.{digitOf}
-use Rattle.replay_script.proofs.hexes.digit.Statement.{statement}
-use Rattle.replay_script.proofs.hexes.digit.Tie as tie
+use Rattle.replay_hexes.specs.Hexes.{digitOf}
+use Rattle.replay_hexes.proofs.digit.Statement.{statement}
+use Rattle.replay_hexes.proofs.digit.Tie as tie
 
 module _ (x : ℕ) where
   before-digits : x < 48 → 16 ≡ digitOf x

@@ -8,9 +8,9 @@ use borrow.Author.Needs.{needs}
 use borrow.Author.Tests.{eq-eqb, ne-eqb, leb-false}
 use lib.ListN.{length, getD}
 use lib.Dec.{eqb, leb}
-use Rattle.replay_script.specs.Hexes.{octetAt, placeOf, isThere}
-use Rattle.replay_script.proofs.hexes.is_there.Statement.{statement}
-use Rattle.replay_script.proofs.hexes.is_there.Tie as tie
+use Rattle.replay_hexes.specs.Hexes.{octetAt, placeOf, isThere}
+use Rattle.replay_hexes.proofs.is_there.Statement.{statement}
+use Rattle.replay_hexes.proofs.is_there.Tie as tie
 
 inside : (s : List ℕ) (at : ℕ) → (octetAt at s ≡ 256 → ⊥) → at < length s
 unfolding octetAt

@@ -3,9 +3,9 @@ use Prim.Native.Nat.{ℕ, _+_, _%_, _≤_, _<_}
 use mathlib.Core.Path.{_≡_}
 use borrow.Author.Needs.{needs}
 use borrow.Author.Tests.{lt-ltb, le-ltb}
-use Rattle.replay_script.specs.Hexes.{spelled}
-use Rattle.replay_script.proofs.hexes.spell.Statement.{statement}
-use Rattle.replay_script.proofs.hexes.spell.Tie as tie
+use Rattle.replay_hexes.specs.Hexes.{spelled}
+use Rattle.replay_hexes.proofs.spell.Statement.{statement}
+use Rattle.replay_hexes.proofs.spell.Tie as tie
 
 low : (n : ℕ) → n % 16 < 10 → 48 + n % 16 ≡ spelled n
 unfolding spelled

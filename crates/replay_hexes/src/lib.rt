@@ -1,8 +1,8 @@
 // Octets in hexadecimal, two digits each, of either case when they are read; parted by one blank each, or by nothing.
 ghost use mathlib.Core.Path.{_≡_};
 ghost use Prim.Native.Nat.{_≤_};
-ghost use Rattle.replay_script.specs.Hexes.{digitOf, spelled, octetAt, placeOf, isThere, wholeOf, hexCount, readInto};
-use crate::numbers::NONE;
+ghost use Rattle.replay_hexes.specs.Hexes.{digitOf, spelled, octetAt, placeOf, isThere, wholeOf, hexCount, readInto};
+use replay_script::numbers::NONE;
 
 // The value of a digit; 16 where the octet is no digit.
 fn digit(octet: u8) -> u8

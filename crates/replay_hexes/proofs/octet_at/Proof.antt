@@ -5,9 +5,9 @@ use mathlib.Core.List.{List}
 use borrow.Author.Needs.{needs}
 use borrow.Author.Tests.{lt-ltb, le-ltb, le-leb, lt-leb}
 use lib.ListN.{length, getD}
-use Rattle.replay_script.specs.Hexes.{digitOf, octetOf, octetAt}
-use Rattle.replay_script.proofs.hexes.octet_at.Statement.{statement}
-use Rattle.replay_script.proofs.hexes.octet_at.Tie as tie
+use Rattle.replay_hexes.specs.Hexes.{digitOf, octetOf, octetAt}
+use Rattle.replay_hexes.proofs.octet_at.Statement.{statement}
+use Rattle.replay_hexes.proofs.octet_at.Tie as tie
 
 behind : (s : List ℕ) (at : ℕ) → length s ≤ at → 256 ≡ octetAt at s
 unfolding octetAt

@@ -9,10 +9,10 @@ use borrow.Author.Tests.{eq-eqb, ne-eqb, lt-ltb, le-ltb, not-true, not-false}
 use lib.ListN.{length}
 use lib.Dec.{eqb}
 use Rattle.rules.specs.Octets.{if_then_else_}
 use Rattle.replay_script.specs.Numbers.{none}
-use Rattle.replay_script.specs.Hexes.{isThere, wholeOf, allThere, hexCount}
-use Rattle.replay_script.proofs.hexes.count.Statement.{statement}
-use Rattle.replay_script.proofs.hexes.count.Tie as tie
+use Rattle.replay_hexes.specs.Hexes.{isThere, wholeOf, allThere, hexCount}
+use Rattle.replay_hexes.proofs.count.Statement.{statement}
+use Rattle.replay_hexes.proofs.count.Tie as tie
 
 -- a text within a line has fewer octets than characters
 few : (t : Bool) (n : ℕ) → n ≤ 8191 → (wholeOf t n ≡ none → ⊥) → wholeOf t n ≤ 8191
