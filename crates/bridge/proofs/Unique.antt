@@ -10,7 +10,7 @@ use Rattle.rules.specs.declared.Piece.{Piece}
 use Rattle.rules.specs.declared.Standing.{Standing}
 use Rattle.rules.specs.declared.Heard.{Heard}
 use Rattle.rules.specs.declared.Told.{Told}
-use Rattle.bridge.specs.Calls.{Freshens, Takes, Happens, Cuts}
+use Rattle.rules.specs.Calls.{Freshens, Takes, Happens, Cuts}
 
 pub check-unique : (book : List ℕ) {n m : ℕ} → n ≡ checkCall book → m ≡ checkCall book → n ≡ m
 check-unique book p q = p ∙ sym q

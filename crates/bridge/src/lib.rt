@@ -7,14 +7,10 @@ use rules::OurSeid;
 use rules::Piece;
 use rules::Standing;
 use rules::Told;
-use rules::layout::COUNT_PLACE;
-use rules::layout::LINK_MARK;
-use rules::layout::RECORD;
-use rules::layout::RECORDS;
 
 ghost use mathlib.Core.Path.{_≡_};
 ghost use Rattle.rules.specs.Host.{checkCall, settingsCall, delayCall, statusCall, packetsCall};
-ghost use Rattle.bridge.specs.Calls.{Freshens, Takes, Happens, Cuts};
+ghost use Rattle.rules.specs.Calls.{Freshens, Takes, Happens, Cuts};
 
 // Whether a book is right: 0, or its number.
 pub fn check(book: &[u8]) -> u8
@@ -27,18 +23,7 @@ pub fn check(book: &[u8]) -> u8
 pub fn fresh(book: &[u8], saved: &mut [u8]) -> u8
     ensures { λ r. ⌜ Freshens (now (book .entry)) (now (saved .entry)) r (now (saved .exit)) ⌝ }
 {
-    let number = check(book);
-    if number != 0 {
-        return number;
-    }
-    let entries = book::places::count(book);
-    if saved.len() < RECORDS + entries * RECORD {
-        return 12;
-    }
-    saved_fresh::begin(book, &mut saved[RECORDS..]);
-    saved[COUNT_PLACE] = entries as u8;
-    saved[LINK_MARK] = 0;
-    0
+    bridge_link::fresh(book, saved)
 }
 
 // Takes a packet from the far end. The reply's payload is at the front of `reply`, of which 64 octets are asked for.
@@ -57,19 +42,7 @@ pub fn packet(book: &[u8], size: usize, saved: &mut [u8], packet: &[u8], reply: 
 pub fn event(book: &[u8], saved: &mut [u8], event: Event) -> u8
     ensures { λ r. ⌜ Happens (now (book .entry)) (now (saved .entry)) event r (now (saved .exit)) ⌝ }
 {
-    let number = bridge_refusals::refusal(book, saved);
-    if number != 0 {
-        return number;
-    }
-    match event {
-        Event::Up => saved_events::up(&mut saved[RECORDS..], book::places::count(book)),
-        Event::Down(seid) => saved_events::down(book, &mut saved[RECORDS..], seid),
-        Event::Lost => {
-            saved_events::lost(&mut saved[RECORDS..], book::places::count(book));
-            saved[LINK_MARK] = 0;
-            0
-        }
-    }
+    bridge_link::event(book, saved, event)
 }
 
 // The settings of an endpoint where they stand: its configuration in the saved area, or what it offers in the book. Empty where

@@ -1,23 +1,12 @@
 -- The saved area in its parts, the count, the link part and the records: a part that was lent and came back.
-use Prim.Native.Nat.{ℕ, _-_, _≤_}
+use Prim.Native.Nat.{ℕ, _≤_}
 use mathlib.Core.Path.{_≡_, sym, ap, _∙_}
-use mathlib.Core.List.{List, _++_, append-nil, append-assoc}
+use mathlib.Core.List.{List, _++_, append-assoc}
 use native.Mathlib.Omega.{arith}
-use lib.ListN.{length, take, drop, length-append, length-take, length-drop, drop-of-length-le}
-use lib.Seq.{length-take-le, take-all, take-at, drop-at, drop-drop}
+use lib.ListN.{length, take, drop, length-append, length-take, length-drop}
+use lib.Seq.{length-take-le, take-at, drop-at, drop-drop}
 use Rattle.rules.specs.Saved.{linkRoom, recordsPlace, linkOf, recordsOf}
 use Rattle.bridge_packet.specs.Taken.{withLink}
-
--- all that stands behind a place
-pub behind-whole : (k : ℕ) (l : List ℕ) → take (length l - k) (drop k l) ≡ drop k l
-behind-whole k l = let e = length-drop k l in take-all (length l - k) (drop k l) (omega arith)
-
--- and lent it comes back behind what stands before
-pub tail-back : (k : ℕ) (l m : List ℕ) → take k l ++ (m ++ drop (length l - k) (drop k l)) ≡ take k l ++ m
-tail-back k l m =
-    let e = length-drop k l in
-    ap (λ (x : List ℕ). take k l ++ x)
-      (ap (λ (x : List ℕ). m ++ x) (drop-of-length-le (drop k l) {i = length l - k} (omega arith)) ∙ append-nil m)
 
 module _ (l m : List ℕ) where
   -- the link part lent and come back

@@ -17,7 +17,7 @@ use Rattle.saved.specs.Serves.{Serves}
 use Rattle.commands_reply.specs.Obeys.{Obeys}
 use Rattle.commands.specs.Messages.{answering}
 use Rattle.bridge_packet.specs.Taken.{spoken, served}
-use Rattle.bridge_packet.proofs.Halves.{behind-whole, tail-back}
+use Rattle.octets.proofs.Tails.{behind-whole, tail-back}
 
 told-reply : (m : Message) (r : Reply) → spoken (m .header) (saidOf r) ≡ toldOf m r
 unfolding spoken saidOf toldOf said nothingSaid

@@ -14,7 +14,7 @@ use Rattle.rules.specs.declared.Heard.{Heard}
 use Rattle.rules.specs.declared.Told.{Told}
 use Rattle.octets.specs.Patch.{patch}
 use Rattle.octets.proofs.Patches.{front-patch}
-use Rattle.bridge.specs.Calls.{Freshens, Takes, Happens, Cuts}
+use Rattle.rules.specs.Calls.{Freshens, Takes, Happens, Cuts}
 use Rattle.bridge_step.specs.declared.Call.{Call}
 use Rattle.bridge_step.specs.declared.Call.the-variants as Call
 use Rattle.bridge_step.specs.declared.Answer.the-variants.{Number, Told as ToldIt, Shown, Heard as HeardIt, Stands, Counted}

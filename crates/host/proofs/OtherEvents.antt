@@ -20,7 +20,7 @@ use Rattle.rules.proofs.Places.{find-known}
 use Rattle.rules.proofs.ShortReplies.{entry-at}
 use Rattle.rules.proofs.Unrefused.{none-refused}
 use Rattle.bridge_refusals.proofs.Refusing.{number-first}
-use Rattle.bridge.proofs.Happened.{event-refused}
+use Rattle.bridge_link.proofs.Happened.{event-refused}
 use Rattle.host.specs.Exports.{ours, eventOf}
 
 pub no-event : (which seid : ℕ) → (which ≡ 0 → ⊥) → (which ≡ 1 → ⊥) → (which ≡ 2 → ⊥) → Down (ours 0) ≡ eventOf which seid

@@ -15,7 +15,7 @@ use rules::layout::RECORDS;
 
 ghost use mathlib.Core.Path.{_≡_};
 ghost use Rattle.rules.specs.Host.{checkCall, delayCall, packetsCall};
-ghost use Rattle.bridge.specs.Calls.{Freshens, Takes, Cuts};
+ghost use Rattle.rules.specs.Calls.{Freshens, Takes, Cuts};
 ghost use Rattle.host.specs.Exports.{ours, HappensBy, Stands, statusBy};
 
 // Where an endpoint's settings stand: a number, the area (0 none, 1 the book, 2 the saved area), the place in it and the length.

@@ -57,6 +57,7 @@ pub mod Endpoints
 pub mod Saved
 pub mod Commands
 pub mod Host
+pub mod Calls
 pub mod Sessions
 pub mod Listed
 pub mod Views

@@ -9,7 +9,7 @@ use Rattle.packets_next.specs.declared.nexts.Next.the-variants.{Single, Complet
 use Rattle.packets_next.proofs.Steps.{room-told}
 use Rattle.packets_gather.proofs.Done.{none-done}
 use Rattle.rules.proofs.SavedReads.{octets-known}
-use Rattle.bridge_packet.proofs.Halves.{behind-whole}
+use Rattle.octets.proofs.Tails.{behind-whole}
 use Rattle.bridge_packet.proofs.Taking.{room-right, nothing-done, single-header, single-serves, single-done, joined-serves}
 use Rattle.bridge_packet.proofs.Taking.{joined-done}
 use borrow.Author.Needs.{needs}

@@ -17,7 +17,7 @@ use Rattle.packets_next.specs.declared.nexts.Next.the-variants.{Single, Complet
 use Rattle.octets.specs.Patch.{patch, part}
 use Rattle.octets.proofs.Patches.{front-patch}
 use Rattle.packets_next.specs.Rooms.{RoomRight}
-use Rattle.packets_next.proofs.Headers.{behind}
+use Rattle.octets.proofs.Tails.{behind-whole}
 use Rattle.packets_next.proofs.Steps.{Singles, RoomTells, room-told}
 use Rattle.packets_gather.proofs.Done.{roomAfter, Assembled, assembled, none-done}
 use Rattle.packets_echo.specs.declared.Echoed.{Echoed}
@@ -30,7 +30,7 @@ use Rattle.packets_echo.proofs.receive.Tie as tie
 -- the payload of a single as it is lent
 single-part : (p q : List ℕ) → q ≡ part 2 (length p - 2) p → q ≡ drop 2 p
 unfolding part
-single-part p q e = e ∙ behind 2 p
+single-part p q e = e ∙ behind-whole 2 p
 
 module _ (h : Header) (p : List ℕ) (done : Option Message) where
   single-echoed : done ≡ some (record { header = h; payload = drop 2 p })

@@ -9,7 +9,7 @@ use Rattle.rules.specs.Octets.{front}
 use Rattle.rules.specs.Saved.{gatheringAt, payloadLengthIn}
 use Rattle.octets.specs.Patch.{patch, part}
 use Rattle.octets.proofs.Patches.{front-patch, front-more}
-use Rattle.packets_next.proofs.Headers.{behind, length-behind}
+use Rattle.octets.proofs.Tails.{behind-whole, length-behind}
 use Rattle.packets_next.proofs.Rooms.{payload-length}
 use Rattle.packets_gather.proofs.assemble.Statement.{statement}
 use Rattle.packets_gather.proofs.assemble.Tie as tie
@@ -77,9 +77,9 @@ returns c =
     let payload = gatheringAt room .message .payload in
     let n = read .gathered .ensures ∙ sym (payload-length room (start .pre .0) (start .pre .1 .1 .0)) in
     ( written _ payload _ (drop 1 p) (start .args .message .now) _ _ _
-        (lent room _ _ (read .gathered .ensures) (lending .part2 .ensures)) (behind 1 p) n (first .put .ensures)
+        (lent room _ _ (read .gathered .ensures) (lending .part2 .ensures)) (behind-whole 1 p) n (first .put .ensures)
         (second .put2 .ensures),
-      counted payload _ (drop 1 p) _ (behind 1 p) n)
+      counted payload _ (drop 1 p) _ (behind-whole 1 p) n)
 
 pub assemble-spec : {M : Type 1} → statement M
 assemble-spec =

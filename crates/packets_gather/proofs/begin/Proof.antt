@@ -3,7 +3,7 @@ use borrow.Author.Needs.{needs}
 use native.Mathlib.Omega.{arith}
 use mathlib.Core.Path.{_∙_}
 use lib.ListN.{length-set, length-drop}
-use Rattle.packets_next.proofs.Headers.{behind, length-behind}
+use Rattle.octets.proofs.Tails.{behind-whole, length-behind}
 use Rattle.packets_gather.proofs.Fronts.{begun-stored}
 use Rattle.packets_gather.proofs.begin.Statement.{statement}
 use Rattle.packets_gather.proofs.begin.Tie as tie
@@ -62,7 +62,7 @@ returns c =
     let args = start .args in
     called .add-part .ensures
     ∙ begun-stored (args .room .now) (args .packet .now) _ (start .pre .0) (omega (arith, known .shared-slice-known .given 0))
-        (behind 3 (args .packet .now))
+        (behind-whole 3 (args .packet .now))
 
 pub begin-spec : {M : Type 1} → statement M
 begin-spec =

@@ -3,7 +3,7 @@ use borrow.Author.Needs.{needs}
 use native.Mathlib.Omega.{arith}
 use mathlib.Core.Path.{_∙_}
 use lib.ListN.{length-drop}
-use Rattle.packets_next.proofs.Headers.{behind, length-behind}
+use Rattle.octets.proofs.Tails.{behind-whole, length-behind}
 use Rattle.packets_gather.proofs.Fronts.{grown-stored}
 use Rattle.packets_gather.proofs.grow.Statement.{statement}
 use Rattle.packets_gather.proofs.grow.Tie as tie
@@ -44,7 +44,7 @@ returns c =
     let args = start .args in
     called .add-part .ensures
     ∙ grown-stored (args .room .now) (args .packet .now) _ _ (start .pre .0 .0) (start .pre .0 .1) (omega arith)
-        (counted .gathered .ensures) (behind 1 (args .packet .now))
+        (counted .gathered .ensures) (behind-whole 1 (args .packet .now))
 
 pub grow-spec : {M : Type 1} → statement M
 grow-spec =

@@ -26,9 +26,9 @@ use Rattle.rules.proofs.StaysLegal.{legal-ends, happens-legal}
 use Rattle.rules.proofs.SavedStaysRight.{right-legal}
 use Rattle.saved.specs.Held.{Held}
 use Rattle.saved_events.specs.Events.{MovedRecords, upped, downed, downedAt, allIdle}
-use Rattle.bridge.specs.Calls.{Happens}
-use Rattle.bridge_packet.proofs.Halves.{behind-whole, tail-back}
-use Rattle.bridge.proofs.Halves.{cleared-back}
+use Rattle.rules.specs.Calls.{Happens}
+use Rattle.octets.proofs.Tails.{behind-whole, tail-back}
+use Rattle.bridge_link.proofs.Halves.{cleared-back}
 use Rattle.bridge_refusals.proofs.Refusing.{number-first, Calm}
 
 module _ (book saved : List ℕ) where

@@ -7,14 +7,14 @@ use mathlib.Core.Option.{none}
 use lib.ListN.{length, take, drop, set}
 use borrow.Author.Tests.{ne-eqb, lt-ltb, le-ltb}
 use borrow.Rule.Slice.PartMut.{putMid}
-use Rattle.rules.specs.Book.{Book, bookOf}
+use Rattle.rules.specs.Book.{Book, bookNumber, bookOf}
 use Rattle.rules.specs.Endpoints.{freshEnds, freshConnection}
 use Rattle.rules.specs.Saved.{recordsPlace, recordRoom, areaFor, linkOf, recordsOf, storeEnds, storeGathering, store}
-use Rattle.rules.specs.Host.{numberOr, checkCall, freshCall}
+use Rattle.rules.specs.Host.{numberOr, freshCall}
 use Rattle.rules.proofs.SavedReads.{records-room}
-use Rattle.bridge.specs.Calls.{Freshens}
-use Rattle.bridge_packet.proofs.Halves.{behind-whole}
-use Rattle.bridge.proofs.Halves.{counted-back}
+use Rattle.rules.specs.Calls.{Freshens}
+use Rattle.octets.proofs.Tails.{behind-whole}
+use Rattle.bridge_link.proofs.Halves.{counted-back}
 use Rattle.bridge_refusals.proofs.Refusing.{book-first}
 
 -- one endpoint an entry
@@ -24,13 +24,13 @@ fresh-length [] = refl
 fresh-length (n ∷ book) = ap suc (fresh-length book)
 
 module _ (book saved : List ℕ) where
-  pub fresh-refused : (n : ℕ) → n ≡ checkCall book → (n ≡ 0 → ⊥) → Freshens book saved n saved
-  unfolding freshCall checkCall
+  pub fresh-refused : (n : ℕ) → n ≡ bookNumber book → (n ≡ 0 → ⊥) → Freshens book saved n saved
+  unfolding freshCall
   fresh-refused n e h = rw (← (book-first book n _ e h), ne-eqb n 0 h)
 
-  module _ (right : checkCall book ≡ 0) (n : ℕ) (counted : n ≡ length (bookOf book)) where
+  module _ (right : bookNumber book ≡ 0) (n : ℕ) (counted : n ≡ length (bookOf book)) where
     pub short-fresh : length saved < recordsPlace + n * recordRoom → Freshens book saved 12 saved
-    unfolding freshCall checkCall numberOr areaFor
+    unfolding freshCall numberOr areaFor
     short-fresh h = rw (right, lt-ltb (length saved) (areaFor (length (bookOf book))) (omega arith))
 
     module _ (long : recordsPlace + n * recordRoom ≤ length saved) where
@@ -45,7 +45,7 @@ module _ (book saved : List ℕ) where
       pub freshened : (m : List ℕ)
         → m ≡ storeEnds (freshConnection (bookOf book) .ends) (take (length saved - recordsPlace) (drop recordsPlace saved))
         → Freshens book saved 0 (set (set (putMid recordsPlace (length saved - recordsPlace) saved m) 0 n) 1 0)
-      unfolding freshCall checkCall numberOr store freshConnection recordsOf
+      unfolding freshCall numberOr store freshConnection recordsOf
       freshened m t =
           ap (λ (x : List ℕ). record { number = 0; saved = x })
             (counted-back saved m (omega arith) n

@@ -3,9 +3,9 @@ use borrow.Author.Needs.{needs}
 use native.Mathlib.Omega.{arith}
 use mathlib.Core.Path.{refl}
 use Rattle.bridge_refusals.proofs.Refusing.{Calm, calm}
-use Rattle.bridge.proofs.Happened.{event-refused, lent-held, up-happens, down-happens, lost-happens}
-use Rattle.bridge.proofs.event.Statement.{statement}
-use Rattle.bridge.proofs.event.Tie as tie
+use Rattle.bridge_link.proofs.Happened.{event-refused, lent-held, up-happens, down-happens, lost-happens}
+use Rattle.bridge_link.proofs.event.Statement.{statement}
+use Rattle.bridge_link.proofs.event.Tie as tie
 
 refusal-requires : tie.Need-refusal-requires
 refusal-requires c κs = search needs

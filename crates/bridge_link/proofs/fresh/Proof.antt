@@ -4,11 +4,11 @@ use Prim.Native.Nat.{_≤_}
 use native.Mathlib.Omega.{arith}
 use mathlib.Core.Path.{_≡_, sym, _∙_}
 use lib.ListN.{length-set}
-use Rattle.rules.specs.Host.{checkCall}
+use Rattle.rules.specs.Book.{bookNumber}
 use Rattle.rules.proofs.RightBook.{right-book}
-use Rattle.bridge.proofs.Freshened.{fresh-refused, short-fresh, lent-room, freshened}
-use Rattle.bridge.proofs.fresh.Statement.{statement}
-use Rattle.bridge.proofs.fresh.Tie as tie
+use Rattle.bridge_link.proofs.Freshened.{fresh-refused, short-fresh, lent-room, freshened}
+use Rattle.bridge_link.proofs.fresh.Statement.{statement}
+use Rattle.bridge_link.proofs.fresh.Tie as tie
 
 check-requires : tie.Need-check-requires
 check-requires c κs = search needs
@@ -20,16 +20,14 @@ returns c =
     fresh-refused (args .book .now) (args .saved .now) (checked .check .result) (checked .check .ensures) (c .if1 .taken)
 
 -- the book is right
-right : (c : tie.Else1) → checkCall (c .before .before .before .before .args .book .now) ≡ 0
+right : (c : tie.Else1) → bookNumber (c .before .before .before .before .args .book .now) ≡ 0
 right c = sym (c .before .check .ensures) ∙ c .if1 .left
 
 count-requires : tie.Need-count-requires
-unfolding checkCall
 count-requires c κs = right c
 
 -- the entries of a right book
 few : (c : tie.After-count) → c .count .result ≤ 16
-unfolding checkCall
 few c =
     let book = c .before .before .before .before .before .args .book .now in
     omega (arith, c .count .ensures, right-book book (right (c .before)) .few)
@@ -57,7 +55,6 @@ part-begin-end : tie.Need-part-begin-end
 part-begin-end c = search needs
 
 begin-requires : tie.Need-begin-requires
-unfolding checkCall
 begin-requires c κs =
     let long = c .before in
     let counted = long .before in

@@ -9,7 +9,7 @@ use lib.ListN.{length, take, set}
 use borrow.Rule.Slice.PartMut.{putMid}
 use Rattle.rules.specs.Octets.{front}
 use Rattle.rules.specs.Saved.{recordsPlace, countIn, linkOf, storeGathering}
-use Rattle.bridge_packet.proofs.Halves.{tail-back}
+use Rattle.octets.proofs.Tails.{tail-back}
 
 -- what stands before the records, with the mark set to none
 cleared : (l records : List ℕ) → 2 ≤ length l

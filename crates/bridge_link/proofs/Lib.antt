@@ -1,0 +1,3 @@
+pub mod Halves
+pub mod Happened
+pub mod Freshened
