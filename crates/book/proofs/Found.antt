@@ -1,6 +1,6 @@
 -- The laws of a SEID's place: entry by entry, the walk over places is `find` over the entries, and of a right book the list of
 -- the entry that is found lies inside it.
-use Prim.Native.Nat.{ℕ, zero, suc, _+_, _≤_, _<_}
+use Prim.Native.Nat.{ℕ, zero, suc, _+_, _-_, _≤_, _<_}
 use native.Mathlib.Nat.{add-zero, zero-add}
 use native.Mathlib.Numerals.{add-one}
 use native.Mathlib.Omega.{arith}
@@ -14,7 +14,7 @@ use borrow.Author.Tests.{eqb-true, eq-eqb, ne-eqb}
 use Rattle.rules.specs.Book.{Entry, Found, unknown, known, later, find, kindRight, bookNumber, entriesIn, bookOf}
 use Rattle.rules.specs.declared.OurSeid.{OurSeid}
 use Rattle.rules.proofs.Tests.{Told?, told, passed, failed}
-use Rattle.rules.proofs.RightBook.{entryRight, right-book}
+use Rattle.rules.proofs.RightBook.{entryRight, entries-length, right-book}
 use Rattle.rules.proofs.Places.{At, find-known, at-inside}
 use Rattle.rules.proofs.ShortReplies.{entry-at}
 use Rattle.book.specs.Places.{knownAt, placeFrom, placeIn, foundBy}
@@ -152,11 +152,10 @@ placed s b i kind from size h e =
 
 -- ---- How many entries there are
 
-entries-length : (n : ℕ) (l : List ℕ) → length (entriesIn n l) ≡ n
-unfolding entriesIn
-entries-length zero l = refl
-entries-length (suc n) l = ap suc (entries-length n (drop (getD l 2 0) (drop 3 l)))
-
 pub book-length : (b : List ℕ) → length (bookOf b) ≡ getD b 5 0
 unfolding bookOf
 book-length b = entries-length (getD b 5 0) (drop 6 b)
+
+-- as many as a walk over the entries begins with
+pub all-counted : (b : List ℕ) (entries : ℕ) → entries ≡ length (bookOf b) → getD b 5 0 ≡ entries - 0
+all-counted b entries e = let counted = book-length b in omega arith

@@ -1,4 +1,4 @@
-// A packet takenOn on a legal connection: it is gathered, and a message that it completes is answered.
+// A packet taken on a legal connection: it is gathered, and a message that it completes is answered.
 use packets_next::nexts::Next;
 use commands_reply::Said;
 use rules::Header;

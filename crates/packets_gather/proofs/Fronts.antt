@@ -1,6 +1,6 @@
 -- What a gathering's head and part come to in its room: each is written behind what stands at the front already, which makes the
 -- front longer, and a front that goes on with what stands there already changes nothing.
-use Prim.Native.Nat.{ℕ, suc, _+_, _/_, _%_, _≤_, _<_}
+use Prim.Native.Nat.{ℕ, _+_, _/_, _%_, _≤_, _<_}
 use native.Mathlib.Nat.{zero-add}
 use native.Mathlib.Numerals.{add-one}
 use native.Mathlib.Omega.{arith}
@@ -8,16 +8,16 @@ use mathlib.Core.Path.{_≡_, refl, sym, ap, ap₂, _∙_}
 use mathlib.Core.List.{List, [], _∷_, _++_, append-assoc}
 use mathlib.Core.Option.{some}
 use lib.ListN.{length, take, drop, getD, length-append, length-drop, take-append-drop}
-use lib.Seq.{drop-drop, drop-cons, length-take-le, sets, sets-eq}
+use lib.Seq.{drop-drop, length-take-le, sets, sets-eq}
 use Rattle.rules.specs.Octets.{front}
 use Rattle.rules.specs.Packets.{messageFrom, extended, mtypeIn, signalIn}
 use Rattle.rules.specs.Saved.{gatheringRoom, gatheringAt, gatheringHead, storeGathering, payloadLengthIn}
+use Rattle.rules.proofs.SavedReads.{front-same, octetsFrom, octets-from}
 use Rattle.octets.specs.Patch.{patch}
 use Rattle.octets.proofs.Patches.{front-more}
 use Rattle.packets_next.specs.Rooms.{begun, grown}
 use Rattle.packets_gather.specs.Parts.{withPart}
 use Rattle.packets_next.proofs.Headers.{label-in}
-
 
 pub front-kept : (s d : List ℕ) (n : ℕ) → length s + n ≤ length d → front (s ++ take n (drop (length s) d)) d ≡ front s d
 unfolding front
@@ -72,18 +72,13 @@ begun-stored room p part long octet e =
 
 -- ---- A gathering that goes on
 
-next-octet : (r : List ℕ) (i : ℕ) (t : List ℕ) → i < length r → t ≡ drop (suc i) r → getD r i 0 ∷ t ≡ drop i r
-next-octet r i t h e = ap (_∷_ (getD r i 0)) e ∙ sym (drop-cons r i 0 h)
-
 -- the first five octets of a room
 abbrev firstFive : List ℕ → List ℕ
 firstFive r = getD r 0 0 ∷ getD r 1 0 ∷ getD r 2 0 ∷ getD r 3 0 ∷ getD r 4 0 ∷ []
 
 five-kept : (r : List ℕ) → 5 ≤ length r → front (firstFive r) r ≡ r
-unfolding front
-five-kept r h =
-    next-octet r 0 _ (omega arith) (next-octet r 1 _ (omega arith) (next-octet r 2 _ (omega arith) (next-octet r 3 _ (omega arith)
-      (next-octet r 4 (drop 5 r) (omega arith) refl))))
+unfolding octetsFrom
+five-kept r h = front-same (firstFive r) r 5 (octets-from 5 0 r h) h
 
 pub grown-stored : (room p part : List ℕ) (n : ℕ) → length room ≡ gatheringRoom → getD room 0 0 ≡ 1 → n ≤ 512
   → n ≡ payloadLengthIn room → part ≡ drop 1 p

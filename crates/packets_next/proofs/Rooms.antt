@@ -6,15 +6,15 @@ use native.Mathlib.Omega.{arith}
 use mathlib.Core.Path.{_≡_}
 use mathlib.Core.List.{List}
 use mathlib.Core.Bool.{true, _&&_}
-use mathlib.Core.Option.{Option, none, some}
+use mathlib.Core.Option.{Option, some}
 use lib.Dec.{leb, eqb}
 use lib.ListN.{length, drop, getD, length-drop}
 use lib.Seq.{length-take-le}
-use Rattle.rules.specs.Packets.{Gathering, longest, gatheringRight, gather}
+use Rattle.rules.specs.Packets.{Gathering, longest, gather}
 use Rattle.rules.specs.Endpoints.{legalGathering}
 use Rattle.rules.specs.Saved.{gatheringRoom, payloadLengthIn, gatheringAt, gatheringIn, gatheringOctetsRight, storeGathering}
 use Rattle.rules.proofs.Tests.{and-l, and-r}
-use Rattle.rules.proofs.SavedReads.{PayloadFits, gathering-back, gathering-length, gathering-right}
+use Rattle.rules.proofs.SavedReads.{payload-fits, gathering-back, gathering-length, gathering-right}
 use Rattle.rules.proofs.RightMessages.{gather-right}
 use Rattle.packets_next.specs.Rooms.{RoomRight}
 
@@ -42,11 +42,6 @@ unfolding gatheringAt
 payload-length room long fits = length-take-le (payloadLengthIn room) (drop 8 room) (rw length-drop (omega arith))
 
 -- ---- What is stored is right
-
-payload-fits : (g : Option Gathering) → legalGathering g ≡ true → PayloadFits g
-unfolding legalGathering gatheringRight longest
-payload-fits none right = tt
-payload-fits (some g) right = leb-true (length (g .message .payload)) 512 (search (and-l, and-r) depth 7)
 
 module _ (g : Option Gathering) (room : List ℕ) (long : length room ≡ gatheringRoom) (right : legalGathering g ≡ true) where
   pub stored-read : gatheringIn (storeGathering g room) ≡ g

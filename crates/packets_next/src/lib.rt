@@ -17,13 +17,13 @@ ghost use mathlib.Core.Option.{Option};
 ghost use Prim.Native.Nat.{_≤_};
 ghost use lib.ListN.{length, drop, getD};
 ghost use Rattle.rules.specs.Packets.{Gathering, aSingle, aStart, labelIn, mtypeIn, readAs};
-ghost use Rattle.rules.specs.Saved.{payloadLengthIn, gatheringIn};
+ghost use Rattle.rules.specs.Saved.{payloadPlace, payloadLengthIn, gatheringIn};
 ghost use Rattle.packets_next.specs.Nexts.{nextFurther, nextBy, nextOf};
 ghost use Rattle.packets_next.specs.Rooms.{RoomRight};
 
 // How many octets are gathered in the room.
 pub fn gathered(room: &[u8]) -> usize
-    requires { ⌜ 8 ≤ length (now room) ⌝ }
+    requires { ⌜ payloadPlace ≤ length (now room) ⌝ }
     ensures { λ r. ⌜ r ≡ payloadLengthIn (now (room .entry)) ⌝ }
 {
     room[LENGTH_HIGH] as usize * 256 + room[LENGTH_LOW] as usize

@@ -15,10 +15,10 @@ pub mod CommandsLegal
 pub mod RightMessages
 pub mod StaysLegal
 pub mod ShortReplies
+pub mod Unrefused
 pub mod SavedStaysRight
 pub mod Never12
 pub mod Refused
-pub mod Unrefused
 pub mod SettingsShown
 pub mod EveryAnswer
 pub mod Moves

@@ -104,9 +104,9 @@ awaiting-set [] i e = omega arith
 awaiting-set (x ∷ ends) zero e = omega arith
 awaiting-set (x ∷ ends) (suc i) e = let h = awaiting-set ends i e in omega arith
 
-awaits-one : (b : Bool) → (if b then 1 else 0) ≤ 1
-awaits-one true = omega arith
-awaits-one false = omega arith
+pub at-most-one : (b : Bool) → (if b then 1 else 0) ≤ 1
+at-most-one true = omega arith
+at-most-one false = omega arith
 
 -- one that awaits no more than the one before it leaves the count, and any one raises it by at most one
 pub awaiting-kept : (ends : Ends) (i : ℕ) (e : Endpoint) → awaits e ≤ awaits (endAt ends i)
@@ -115,4 +115,4 @@ awaiting-kept ends i e h = let s = awaiting-set ends i e in omega arith
 
 pub awaiting-raised : (ends : Ends) (i : ℕ) (e : Endpoint) → awaiting (set ends i e) ≤ awaiting ends + 1
 unfolding awaits
-awaiting-raised ends i e = let s = awaiting-set ends i e in let one = awaits-one (isAwaited (e .head .channel)) in omega arith
+awaiting-raised ends i e = let s = awaiting-set ends i e in let one = at-most-one (isAwaited (e .head .channel)) in omega arith

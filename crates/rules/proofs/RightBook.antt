@@ -30,7 +30,7 @@ pub entry-right : (n : Entry) → between 1 62 (n .seid .0) ≡ true → leb (le
 unfolding entryRight
 entry-right n s c l = and-both _ _ (and-both (between 1 62 (n .seid .0)) (leb (length (n .caps)) 64) s c) l
 
-entries-length : (n : ℕ) (l : List ℕ) → length (entriesIn n l) ≡ n
+pub entries-length : (n : ℕ) (l : List ℕ) → length (entriesIn n l) ≡ n
 unfolding entriesIn
 entries-length zero l = refl
 entries-length (suc n) l = ap suc (entries-length n (drop (getD l 2 0) (drop 3 l)))

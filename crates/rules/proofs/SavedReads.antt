@@ -16,8 +16,8 @@ use lib.Arith.{digits-div, digits-mod}
 use borrow.Author.Tests.{leb-true, le-leb, ltb-true, lt-ltb, eqb-true}
 use Rattle.rules.specs.Octets.{octetsIn, sameOctets, each-of, front}
 use Rattle.rules.specs.Book.{bookOf}
-use Rattle.rules.specs.Packets.{Gathering, longest}
-use Rattle.rules.specs.Endpoints.{Endpoint, Ends, Connection, freshConnection}
+use Rattle.rules.specs.Packets.{Gathering, longest, gatheringRight}
+use Rattle.rules.specs.Endpoints.{Endpoint, Ends, Connection, freshConnection, legalGathering}
 use Rattle.rules.specs.Saved.{countRoom, gatheringRoom, linkRoom, recordsPlace, recordRoom, headRoom, configRoom, areaFor}
 use Rattle.rules.specs.Saved.{countIn, linkOf, recordsOf, unused, pairIn, stateIn, stateOctet, channelIn, channelOctet}
 use Rattle.rules.specs.Saved.{payloadLengthIn, delayIn, delayMark, delayTenths, headIn, configIn, endpointIn, recordRight}
@@ -41,6 +41,11 @@ shortConfigs ends = each-of (λ (e : Endpoint). leb (length (e .config)) 64) end
 abbrev pub PayloadFits : Option Gathering → Type 0
 PayloadFits none = Unit {0}
 PayloadFits (some g) = length (g .message .payload) ≤ 512
+
+pub payload-fits : (g : Option Gathering) → legalGathering g ≡ true → PayloadFits g
+unfolding legalGathering gatheringRight longest
+payload-fits none h = tt
+payload-fits (some g) h = leb-true (length (g .message .payload)) 512 (search (and-l, and-r) depth 7)
 
 pub record Roomy (c : Connection) (l : List ℕ) : Type 0 where
   pub area : areaFor (length (c .ends)) ≤ length l
@@ -320,17 +325,21 @@ pub front-same : (s r : List ℕ) (n : ℕ) → s ≡ take n r → n ≤ length 
 unfolding front
 front-same s r n e h = rw e (rw (length-take-le n r h) (take-append-drop n r))
 
--- a list by its places: its octets from place i on, where those behind are known
-next : (r : List ℕ) (i : ℕ) (t : List ℕ) → i < length r → t ≡ drop (suc i) r → getD r i 0 ∷ t ≡ drop i r
-next r i t h e = ap (_∷_ (getD r i 0)) e ∙ sym (drop-cons r i 0 h)
+-- n octets from place k on, read one by one
+unfoldable pub octetsFrom : ℕ → ℕ → List ℕ → List ℕ
+octetsFrom zero k r = []
+octetsFrom (suc n) k r = getD r k 0 ∷ octetsFrom n (suc k) r
+
+pub octets-from : (n k : ℕ) (r : List ℕ) → k + n ≤ length r → octetsFrom n k r ≡ take n (drop k r)
+unfolding octetsFrom
+octets-from zero k r h = refl
+octets-from (suc n) k r h =
+    ap (_∷_ (getD r k 0)) (octets-from n (suc k) r (omega arith)) ∙ ap (take (suc n)) (sym (drop-cons r k 0 (omega arith)))
 
 first-eight : (r : List ℕ) → 8 ≤ length r
     → getD r 0 0 ∷ getD r 1 0 ∷ getD r 2 0 ∷ getD r 3 0 ∷ getD r 4 0 ∷ getD r 5 0 ∷ getD r 6 0 ∷ getD r 7 0 ∷ [] ≡ take 8 r
-first-eight r h =
-    ap (take 8)
-      (next r 0 _ (omega arith) (next r 1 _ (omega arith) (next r 2 _ (omega arith) (next r 3 _ (omega arith)
-        (next r 4 _ (omega arith) (next r 5 _ (omega arith) (next r 6 _ (omega arith)
-          (next r 7 (drop 8 r) (omega arith) refl))))))))
+unfolding octetsFrom
+first-eight r h = octets-from 8 0 r h
 
 either : (a b : Bool) → a || b ≡ true → (a ≡ true) ⊎ (b ≡ true)
 either true b e = inl refl

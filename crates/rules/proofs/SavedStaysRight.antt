@@ -1,18 +1,16 @@
 -- No call of the host makes a right saved area wrong: a legal connection that is stored reads back as it was, and every step on a
 -- legal one leaves a legal one.
-use Prim.Native.Nat.{ℕ, zero, suc, _≤_}
+use Prim.Native.Nat.{ℕ, _≤_}
 use native.Mathlib.Omega.{arith}
 use mathlib.Core.Path.{_≡_, refl, sym, _∙_}
 use mathlib.Core.List.{List, [], _∷_}
 use mathlib.Core.Bool.{true}
-use mathlib.Core.Option.{Option, none, some}
 use lib.ListN.{length, replicate}
 use lib.Dec.{leb, ltb, eqb}
 use borrow.Author.Tests.{leb-true, le-leb, ltb-false, eq-eqb, eqb-true, eqb-false}
 use Rattle.rules.specs.Octets.{if_then_else_}
 use Rattle.rules.specs.Book.{Book, bookNumber, bookOf}
-use Rattle.rules.specs.Packets.{Gathering, gatheringRight, longest}
-use Rattle.rules.specs.Endpoints.{Connection, legal, legalGathering, freshConnection, happens}
+use Rattle.rules.specs.Endpoints.{Connection, legal, freshConnection, happens}
 use Rattle.rules.specs.Saved.{areaFor, countIn, connectionIn, store, savedRight}
 use Rattle.rules.specs.Host.{numberOr, refusalOf, packetRefusal, Kept, freshCall, Answered, packetCall, eventCall}
 use Rattle.rules.specs.Computed.{computed}
@@ -21,19 +19,15 @@ use Rattle.rules.specs.Sessions.{Call, check, fresh, packet, event, sett
 use Rattle.rules.specs.Sessions.{call, after, status}
 use Rattle.rules.specs.declared.Event.{Event}
 use Rattle.rules.proofs.Tests.{and-l, and-r}
-use Rattle.rules.proofs.SavedReads.{PayloadFits, Roomy, length-store, reads-stored, count-stored, stored-octets-right}
+use Rattle.rules.proofs.SavedReads.{payload-fits, Roomy, length-store, reads-stored, count-stored, stored-octets-right}
 use Rattle.rules.proofs.Places.{legal-length}
 use Rattle.rules.proofs.RightBook.{RightBook, right-book, not-failed}
+use Rattle.rules.proofs.Unrefused.{none-first}
 use Rattle.rules.proofs.Outcomes.{if-arms}
 use Rattle.rules.proofs.StaysLegal.{legal-ends, legal-gathering, fresh-legal, takes-legal, happens-legal}
 use Rattle.rules.proofs.ShortReplies.{config-short}
 
 -- ---- Storing a legal connection
-
-payload-fits : (g : Option Gathering) → legalGathering g ≡ true → PayloadFits g
-unfolding legalGathering gatheringRight longest
-payload-fits none h = tt
-payload-fits (some g) h = leb-true (length (g .message .payload)) 512 (search (and-l, and-r) depth 7)
 
 module _ (book : Book) (c : Connection) (l : List ℕ) (right : RightBook book) (area : areaFor (length book) ≤ length l)
     (h : legal book c ≡ true) where
@@ -125,11 +119,6 @@ always-legal b saved right h (c ∷ calls) =
 
 -- ---- A fresh area
 
-number-or-zero : (n next : ℕ) → numberOr n next ≡ 0 → (n ≡ 0) × (next ≡ 0)
-unfolding numberOr
-number-or-zero zero next e = (refl, e)
-number-or-zero (suc n) next e = absurd (omega arith)
-
 pub fresh-right : (b area : List ℕ) → freshCall b area .number ≡ 0 → savedRight (bookOf b) (freshCall b area .saved) ≡ true
 unfolding freshCall
 fresh-right b area =
@@ -138,7 +127,7 @@ fresh-right b area =
     let n = numberOr (bookNumber b) (if too-short then 12 else 0) in
     if-arms (λ (k : Kept). k .number ≡ 0 → savedRight book (k .saved) ≡ true) (eqb n 0) _ _
       (λ t z.
-        let both = number-or-zero (bookNumber b) _ (eqb-true n 0 t) in
+        let both = none-first (bookNumber b) _ (eqb-true n 0 t) in
         let long = ltb-false (length area) (areaFor (length book)) (not-failed too-short 12 0 refl (both .1) .0) in
         stored-right book (freshConnection book) area (right-book b (both .0)) long (fresh-legal book))
       (λ f z. absurd (eqb-false n 0 f z))

@@ -108,7 +108,7 @@ clear-offered v (whole d w) = rw clear-within
 kept-again : (c : ℕ) (v : List ℕ) → kept c (kept c v) ≡ kept c v
 kept-again = by-kept (λ c f. (v : List ℕ) → f (f v) ≡ f v) clear-again (λ c v. refl)
 
-kept-length : (c : ℕ) (v : List ℕ) → length (kept c v) ≡ length v
+pub kept-length : (c : ℕ) (v : List ℕ) → length (kept c v) ≡ length v
 kept-length = by-kept (λ c f. (v : List ℕ) → length (f v) ≡ length v) clear-length (λ c v. refl)
 
 kept-offered : (caps : List Item) (c : ℕ) (v : List ℕ) → offered caps c (kept c v) ≡ offered caps c v

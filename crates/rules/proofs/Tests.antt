@@ -31,6 +31,14 @@ and-r false b e = clash e refl
 pub and-both : (a b : Bool) → a ≡ true → b ≡ true → a && b ≡ true
 and-both a b p q = ap₂ _&&_ p q
 
+pub and-true : (a : Bool) → a && true ≡ a
+and-true true = refl
+and-true false = refl
+
+pub and-false : (a : Bool) → a && false ≡ false
+and-false true = refl
+and-false false = refl
+
 pub or-l : (a b : Bool) → a ≡ true → a || b ≡ true
 or-l a b p = ap (λ (x : Bool). x || b) p
 

@@ -18,7 +18,7 @@ none-saved : (b : Bool) → _≡_ {A = ℕ} (if b then 0 else 12) 0 → b ≡ tr
 none-saved true e = refl
 none-saved false e = absurd (omega arith)
 
-none-first : (n next : ℕ) → numberOr n next ≡ 0 → (n ≡ 0) × (next ≡ 0)
+pub none-first : (n next : ℕ) → numberOr n next ≡ 0 → (n ≡ 0) × (next ≡ 0)
 unfolding numberOr
 none-first zero next e = (refl, e)
 none-first (suc n) next e = absurd (omega arith)

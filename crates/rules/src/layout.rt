@@ -1,5 +1,6 @@
 // The saved connection's layout, each size and place once (specs/Saved.antt, docs/SAVED.md): the count, the link part, the
 // records.
+pub const COUNT_PLACE: usize = 0;
 pub const COUNT: usize = 1;
 pub const LINK: usize = 520;
 pub const RECORDS: usize = COUNT + LINK;
@@ -31,8 +32,7 @@ pub const LENGTH_HIGH: usize = 6;
 pub const LENGTH_LOW: usize = 7;
 pub const PAYLOAD: usize = 8;
 
-// The count's place, and in the whole area the place of the gathering's mark.
-pub const COUNT_PLACE: usize = 0;
+// The place of the gathering's mark in the whole area.
 pub const LINK_MARK: usize = COUNT + MARK;
 
 // A book has at most so many endpoints; what a connection over that many takes.

@@ -22,7 +22,7 @@ ghost use mathlib.Core.List.{_++_};
 ghost use Prim.Native.Nat.{_+_, _*_, _≤_};
 ghost use lib.ListN.{length, drop};
 ghost use Rattle.rules.specs.Saved.{stateIn, stateOctet, channelIn, channelOctet, delayIn, delayMark, delayTenths, pairIn};
-ghost use Rattle.rules.specs.Saved.{recordRoom, headRoom, configRoom, headIn, usedOctets, headOctets, recordAt};
+ghost use Rattle.rules.specs.Saved.{recordRoom, headRoom, configRoom, unusedPlace, headIn, usedOctets, headOctets, recordAt};
 ghost use Rattle.octets.specs.Patch.{patch};
 ghost use Rattle.saved.specs.Records.{configSizeAt, configAt};
 
@@ -119,7 +119,7 @@ pub fn load(slot: &[u8]) -> Head
 // The octets of a head that have a use, with a configuration of this length.
 fn put_used(slot: &mut [u8], h: Head, length: u8)
     requires { ⌜ headRoom ≤ lib.ListN.length (now slot) ⌝ }
-    ensures { λ _. ⌜ now (slot .exit) ≡ usedOctets h length ++ drop 8 (now (slot .entry)) ⌝ }
+    ensures { λ _. ⌜ now (slot .exit) ≡ usedOctets h length ++ drop unusedPlace (now (slot .entry)) ⌝ }
 {
     let state = h.state;
     let channel = h.channel;

@@ -1,9 +1,9 @@
 -- The room of a gathering, test by test.
 use Prim.Native.Nat.{ℕ, _≤_, _<_}
 use native.Mathlib.Omega.{arith}
-use mathlib.Core.Path.{_≡_, refl}
+use mathlib.Core.Path.{_≡_}
 use mathlib.Core.List.{List}
-use mathlib.Core.Bool.{Bool, true, false, _&&_}
+use mathlib.Core.Bool.{true, false, _&&_}
 use lib.ListN.{length, getD}
 use lib.Dec.{leb, ltb}
 use borrow.Author.Tests.{le-leb, lt-leb, ne-eqb}
@@ -11,12 +11,9 @@ use Rattle.rules.specs.Octets.{between}
 use Rattle.rules.specs.Packets.{longest, gatheringRight}
 use Rattle.rules.specs.Endpoints.{legalGathering}
 use Rattle.rules.specs.Saved.{gatheringRoom, gatheringAt, gatheringIn, gatheringOctetsRight, payloadLengthIn}
+use Rattle.rules.proofs.Tests.{and-true}
 use Rattle.packets_next.proofs.Rooms.{payload-length}
 use Rattle.saved_gathering.specs.Room.{roomLegal}
-
-and-true : (a : Bool) → a && true ≡ a
-and-true true = refl
-and-true false = refl
 
 module _ (room : List ℕ) where
   pub none-legal : getD room 0 0 ≡ 0 → true ≡ roomLegal room

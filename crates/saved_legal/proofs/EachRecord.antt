@@ -6,8 +6,8 @@ use mathlib.Core.Path.{_≡_, refl, sym, ap, ap₂, _∙_}
 use mathlib.Core.List.{List, [], _∷_}
 use mathlib.Core.Bool.{Bool, true, false, not, _&&_}
 use lib.ListN.{length, take, drop, getD, length-take, length-drop}
-use lib.Seq.{drop-drop, drop-cons}
-use lib.Dec.{leb, eqb, lit≤}
+use lib.Seq.{drop-drop}
+use lib.Dec.{leb, eqb}
 use borrow.Author.Tests.{leb-true, eq-eqb, ne-eqb}
 use Rattle.rules.specs.Octets.{if_then_else_, sameOctets, isEmpty}
 use Rattle.rules.specs.Book.{Entry, Book, entriesIn, bookOf}
@@ -16,8 +16,10 @@ use Rattle.rules.specs.Endpoints.{keepsSettings, legalEnd, legalEnds, awaiting}
 use Rattle.rules.specs.Saved.{recordRoom, headRoom, configRoom, unused, channelIn, headIn, configIn, endpointIn, recordRight}
 use Rattle.rules.specs.Saved.{endsIn, recordsRight}
 use Rattle.rules.proofs.Tests.{and-l, and-r}
+use Rattle.rules.proofs.Places.{at-most-one}
+use Rattle.rules.proofs.SavedReads.{octetsFrom, octets-from}
 use Rattle.octets.specs.Patch.{part}
-use Rattle.book.proofs.Found.{entryBy, entries-first, book-length}
+use Rattle.book.proofs.Found.{entryBy, entries-first, book-length, all-counted}
 use Rattle.rules.specs.declared.Head.{Head}
 use Rattle.saved_keeps.specs.Settings.{settingsRight}
 use Rattle.saved_legal.specs.Legal.{usedRight, fourZero, awaitsIn, recordLegal, recordsLegal}
@@ -45,15 +47,8 @@ and-eight true true true true true true true false = refl
 eight-behind : (r : List ℕ) → length r ≡ recordRoom
   → take 8 (drop 8 r)
     ≡ getD r 8 0 ∷ getD r 9 0 ∷ getD r 10 0 ∷ getD r 11 0 ∷ getD r 12 0 ∷ getD r 13 0 ∷ getD r 14 0 ∷ getD r 15 0 ∷ []
-eight-behind r long =
-    ap (take 8)
-      (drop-cons r 8 0 (omega arith) ∙ ap (_∷_ (getD r 8 0))
-        (drop-cons r 9 0 (omega arith) ∙ ap (_∷_ (getD r 9 0))
-          (drop-cons r 10 0 (omega arith) ∙ ap (_∷_ (getD r 10 0))
-            (drop-cons r 11 0 (omega arith) ∙ ap (_∷_ (getD r 11 0))
-              (drop-cons r 12 0 (omega arith) ∙ ap (_∷_ (getD r 12 0))
-                (drop-cons r 13 0 (omega arith) ∙ ap (_∷_ (getD r 13 0))
-                  (drop-cons r 14 0 (omega arith) ∙ ap (_∷_ (getD r 14 0)) (drop-cons r 15 0 (omega arith)))))))))
+unfolding octetsFrom
+eight-behind r long = sym (octets-from 8 8 r (omega arith))
 
 unused-fours : (r : List ℕ) → length r ≡ recordRoom
   → sameOctets (take 8 (drop 8 r)) unused
@@ -144,11 +139,7 @@ pairwise true true true d e = refl
 
 pub awaits-few : (o : ℕ) → awaitsIn o ≤ 1
 unfolding awaitsIn
-awaits-few o = go (isAwaited (channelIn o))
-  where
-    go : (b : Bool) → (if b then 1 else 0) ≤ 1
-    go true = lit≤ tt
-    go false = lit≤ tt
+awaits-few o = at-most-one (isAwaited (channelIn o))
 
 first-legal : (n : Entry) (book : Book) (k before : ℕ) (l : List ℕ)
   → recordsLegal (n ∷ book) (suc k) before l
@@ -206,9 +197,6 @@ module _ (n left : ℕ) (b : List ℕ) (at before i : ℕ) (l : List ℕ) (e : l
   turn-goes-on before′ t s = turn ∙ rw (t, s)
 
 -- all of them, of a book with as many entries
-pub all-counted : (b : List ℕ) (entries : ℕ) → entries ≡ length (bookOf b) → getD b 5 0 ≡ entries - 0
-all-counted b entries e = let counted = book-length b in omega arith
-
 pub all-left : (b l : List ℕ) (entries : ℕ) → entries ≡ length (bookOf b)
   → recordsLegal (bookOf b) (length (bookOf b)) 0 l ≡ legalFrom b 6 (entries - 0) 0 0 l
 unfolding bookOf

@@ -13,7 +13,7 @@ use Rattle.rules.specs.Book.{Book, bookNumber, bookOf}
 use Rattle.rules.specs.Endpoints.{legalEnds, awaiting, legalGathering, legal}
 use Rattle.rules.specs.Saved.{recordsPlace, recordRoom, areaFor, countIn, linkOf, recordsOf, endsIn, recordsRight, gatheringIn}
 use Rattle.rules.specs.Saved.{gatheringOctetsRight, connectionIn, savedRight}
-use Rattle.rules.proofs.Tests.{and-l, and-r}
+use Rattle.rules.proofs.Tests.{and-l, and-r, and-false}
 use Rattle.rules.proofs.SavedReads.{octets-drop, gathering-room, records-room}
 use Rattle.packets_next.specs.Rooms.{RoomRight}
 use Rattle.saved.specs.Held.{Held}
@@ -55,10 +55,6 @@ by-parts book l =
         (sym (zero-add (awaiting (endsIn n records))))
 
 -- ---- The tests of the code
-
-and-false : (a : Bool) → a && false ≡ false
-and-false true = refl
-and-false false = refl
 
 module _ (book : Book) (l : List ℕ) (n : ℕ) (e : n ≡ length book) where
   pub too-short : length l < recordsPlace + n * recordRoom → false ≡ savedRight book l

@@ -2,7 +2,7 @@
 use Prim.Native.Nat.{ℕ, suc, _+_, _-_, _/_, _≤_, _<_}
 use mathlib.Core.Path.{_≡_, refl, sym, ap, ap₂, _∙_}
 use mathlib.Core.List.{List, [], _∷_}
-use mathlib.Core.Bool.{Bool, true, false, _&&_}
+use mathlib.Core.Bool.{true, false, _&&_}
 use native.Mathlib.Numerals.{add-one}
 use native.Mathlib.Omega.{arith}
 use lib.ListN.{length, drop, getD}
@@ -11,12 +11,9 @@ use lib.Dec.{eqb}
 use lib.Bits.{bitAnd}
 use borrow.Author.Tests.{eq-eqb, ne-eqb}
 use Rattle.rules.specs.Elements.{bitsWithin, codecWithin}
+use Rattle.rules.proofs.Tests.{and-false}
 use Rattle.elements_offers.proofs.codec_within.Statement.{statement}
 use Rattle.elements_offers.proofs.codec_within.Tie as tie
-
-and-false : (b : Bool) → b && false ≡ false
-and-false true = refl
-and-false false = refl
 
 -- not as many octets
 bits-fewer : (v w : List ℕ) → (length v ≡ length w → ⊥) → bitsWithin v w ≡ false

@@ -1,13 +1,10 @@
 -- `locate` meets its contract: the entries left at a turn are right, and the place among them is the place in the book.
-use Prim.Native.Nat.{ℕ, _+_, _-_, _≤_}
+use Prim.Native.Nat.{_+_, _-_, _≤_}
 use native.Mathlib.Omega.{arith}
 use mathlib.Core.Path.{_≡_, sym, ap, _∙_, subst}
-use mathlib.Core.List.{List}
-use lib.ListN.{length, getD}
-use Rattle.rules.specs.Book.{bookOf}
 use Rattle.book.specs.Places.{placeFrom, placeIn}
 use Rattle.book.proofs.Entries.{RightEntry, RightEntries, first-entry, other-entries, right-head}
-use Rattle.book.proofs.Found.{place-here, place-later, place-none, book-length}
+use Rattle.book.proofs.Found.{place-here, place-later, place-none, all-counted}
 use Rattle.book.proofs.places.locate.Statement.{statement}
 use Rattle.book.proofs.places.locate.Tie as tie
 
@@ -19,10 +16,6 @@ Inv-loop book seid entries at₀ index₀ at index =
 abbrev μ-loop : tie.MeasureT-loop
 μ-loop book seid entries at₀ index₀ at index = entries - index
 
--- all entries of a right book
-all-of : (b : List ℕ) (entries : ℕ) → entries ≡ length (bookOf b) → getD b 5 0 ≡ entries - 0
-all-of b entries e = let counted = book-length b in omega arith
-
 count-requires : tie.Need-count-requires Inv-loop μ-loop
 count-requires c κs = c .before .pre
 
@@ -31,7 +24,7 @@ unfolding placeIn
 loop-holds c =
     let start = c .before .before in
     let book = start .args .book .now in
-    let all = all-of book _ (c .count .ensures) in
+    let all = all-counted book _ (c .count .ensures) in
     ( omega arith,
       ap (λ n. placeFrom n (start .args .seid) book 6 0) all,
       subst (λ n. RightEntries n book 6) all (right-head book (start .pre) .entries))

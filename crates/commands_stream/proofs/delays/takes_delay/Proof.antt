@@ -2,19 +2,16 @@
 use Prim.Native.Nat.{ℕ, _/_, _%_}
 use mathlib.Core.Path.{_≡_, refl, sym, ap, _∙_}
 use mathlib.Core.List.{List, [], _∷_}
-use mathlib.Core.Bool.{Bool, true, false, _&&_, _||_}
+use mathlib.Core.Bool.{Bool, false, _&&_, _||_}
 use borrow.Author.Needs.{needs}
 use borrow.Author.Tests.{eq-eqb, ne-eqb}
 use lib.Dec.{eqb}
 use Rattle.rules.specs.Octets.{some-of}
 use Rattle.rules.specs.Elements.{Item, whole, short, items, categoryOf, valueWithin, offersIn, offered, isOf, has}
 use Rattle.rules.specs.Book.{isSource}
+use Rattle.rules.proofs.Tests.{and-true}
 use Rattle.commands_stream.proofs.delays.takes_delay.Statement.{statement}
 use Rattle.commands_stream.proofs.delays.takes_delay.Tie as tie
-
-and-true : (a : Bool) → a && true ≡ a
-and-true true = refl
-and-true false = refl
 
 offered-has : (is : List Item) (v : List ℕ) → offered is 8 v ≡ has 8 is
 unfolding offered has some-of offersIn isOf valueWithin categoryOf

@@ -2,36 +2,21 @@
 -- the low nibble of its first octet is cleared in place, which is the element as it is kept.
 use Prim.Native.Nat.{ℕ, zero, suc, _+_, _-_, _*_, _/_, _≤_, _<_}
 use mathlib.Core.Path.{_≡_, refl, sym, ap, _∙_}
-use mathlib.Core.List.{List, [], _∷_}
-use mathlib.Core.Bool.{Bool, true, false}
+use mathlib.Core.List.{List, _∷_}
 use native.Mathlib.Numerals.{add-one}
 use native.Mathlib.Omega.{arith}
 use borrow.Author.Needs.{needs}
 use borrow.Author.Tests.{eq-eqb, ne-eqb}
-use lib.Dec.{eqb}
 use lib.ListN.{length, take, drop, getD, set, length-set, length-drop}
 use lib.Seq.{drop-cons, length-take-le}
-use Rattle.rules.specs.Octets.{if_then_else_}
 use Rattle.rules.specs.Elements.{element, clearLow, kept}
+use Rattle.rules.proofs.Storable.{kept-length}
 use Rattle.octets.specs.Patch.{patch, part}
 use Rattle.octets.proofs.Patches.{patch-behind, patch-third}
 use Rattle.elements_stored.specs.Stores.{sizeAt, valueAt, markedPick, PickFits}
 use Rattle.elements_stored.proofs.Writes.{Wrote, wrote-none}
 use Rattle.elements_stored.proofs.config.put_pick.Statement.{statement}
 use Rattle.elements_stored.proofs.config.put_pick.Tie as tie
-
-clear-length : (v : List ℕ) → length (clearLow v) ≡ length v
-unfolding clearLow
-clear-length [] = refl
-clear-length (m ∷ v) = refl
-
-kept-length : (c : ℕ) (v : List ℕ) → length (kept c v) ≡ length v
-unfolding kept
-kept-length c v = go (eqb c 7)
-  where
-    go : (b : Bool) → length (if b then clearLow v else v) ≡ length v
-    go true = clear-length v
-    go false = refl
 
 other-kept : (c : ℕ) (v : List ℕ) → (c ≡ 7 → ⊥) → kept c v ≡ v
 unfolding kept

@@ -10,9 +10,10 @@ use Rattle.rules.specs.Saved.{recordRoom}
 use Rattle.octets.specs.Patch.{part}
 use Rattle.octets.proofs.Patches.{part-length}
 use Rattle.book.proofs.Entries.{RightEntry, RightEntries, first-entry, other-entries, right-head}
+use Rattle.book.proofs.Found.{all-counted}
 use Rattle.saved_legal.specs.Legal.{awaitsIn, recordLegal, recordsLegal}
 use Rattle.saved_legal.proofs.EachRecord.{part-short, awaits-few, legalFrom, entryAt, at-hand}
-use Rattle.saved_legal.proofs.EachRecord.{turn-ends, turn-goes-on, all-counted, all-left, none-left}
+use Rattle.saved_legal.proofs.EachRecord.{turn-ends, turn-goes-on, all-left, none-left}
 use Rattle.saved_legal.proofs.records.records_legal.Statement.{statement}
 use Rattle.saved_legal.proofs.records.records_legal.Tie as tie
 
