@@ -14,7 +14,7 @@ use Rattle.rules.specs.Host.{numberOr, freshCall}
 use Rattle.rules.proofs.SavedReads.{records-room}
 use Rattle.rules.specs.Calls.{Freshens}
 use Rattle.octets.proofs.Tails.{behind-whole}
-use Rattle.bridge_link.proofs.Halves.{counted-back}
+use Rattle.bridge_link.proofs.RecordsBack.{counted-back}
 use Rattle.bridge_refusals.proofs.Refusing.{book-first}
 
 -- one endpoint an entry

@@ -28,7 +28,7 @@ use Rattle.saved.specs.Held.{Held}
 use Rattle.saved_events.specs.Events.{MovedRecords, upped, downed, downedAt, allIdle}
 use Rattle.rules.specs.Calls.{Happens}
 use Rattle.octets.proofs.Tails.{behind-whole, tail-back}
-use Rattle.bridge_link.proofs.Halves.{cleared-back}
+use Rattle.bridge_link.proofs.RecordsBack.{cleared-back}
 use Rattle.bridge_refusals.proofs.Refusing.{number-first, Calm}
 
 module _ (book saved : List ℕ) where

@@ -1,3 +1,3 @@
-pub mod Halves
+pub mod RecordsBack
 pub mod Happened
 pub mod Freshened

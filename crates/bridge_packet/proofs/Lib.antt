@@ -1,3 +1,3 @@
-pub mod Halves
+pub mod LinkBack
 pub mod Telling
 pub mod Taking

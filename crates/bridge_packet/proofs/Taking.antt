@@ -32,7 +32,7 @@ use Rattle.packets_next.proofs.Steps.{Singles, room-told}
 use Rattle.packets_gather.proofs.Done.{roomAfter, Assembled, assembled}
 use Rattle.saved_legal.proofs.RightSaved.{Right, right-saved, serves}
 use Rattle.bridge_packet.specs.Taken.{MayTake, Joins, withLink, joinedPayload, gatheredArea, served, takenOn}
-use Rattle.bridge_packet.proofs.Halves.{link-with, front-with, records-with, long-with}
+use Rattle.bridge_packet.proofs.LinkBack.{link-with, front-with, records-with, long-with}
 
 abbrev pub answered : Told → List ℕ → List ℕ → Answered
 answered told saved reply = record { told = told; saved = saved; reply = reply }

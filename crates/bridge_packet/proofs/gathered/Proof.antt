@@ -5,7 +5,7 @@ use Prim.Native.Nat.{ℕ}
 use borrow.Author.Needs.{needs}
 use Rattle.rules.specs.Saved.{linkOf}
 use Rattle.bridge_packet.specs.Taken.{withLink, gatheredArea}
-use Rattle.bridge_packet.proofs.Halves.{long-by-link, link-back}
+use Rattle.bridge_packet.proofs.LinkBack.{long-by-link, link-back}
 use Rattle.bridge_packet.proofs.gathered.Statement.{statement}
 use Rattle.bridge_packet.proofs.gathered.Tie as tie
 

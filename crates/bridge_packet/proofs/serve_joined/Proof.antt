@@ -10,7 +10,7 @@ use Rattle.rules.proofs.SavedReads.{front-length}
 use Rattle.saved.specs.Serves.{Serves}
 use Rattle.bridge_packet.specs.Taken.{joinedPayload, served}
 use Rattle.rules.specs.Saved.{gatheringRoom, recordsOf, pairIn, gatheringAt}
-use Rattle.bridge_packet.proofs.Halves.{link-whole}
+use Rattle.bridge_packet.proofs.LinkBack.{link-whole}
 use borrow.Author.Needs.{needs}
 use Rattle.bridge_packet.proofs.serve_joined.Statement.{statement}
 use Rattle.bridge_packet.proofs.serve_joined.Tie as tie

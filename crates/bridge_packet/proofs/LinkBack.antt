@@ -1,4 +1,4 @@
--- The saved area in its parts, the count, the link part and the records: a part that was lent and came back.
+-- The saved area in its parts, the count, the link part and the records: the link part was lent and came back.
 use Prim.Native.Nat.{ℕ, _≤_}
 use mathlib.Core.Path.{_≡_, sym, ap, _∙_}
 use mathlib.Core.List.{List, _++_, append-assoc}
