@@ -49,7 +49,7 @@ returns-2 c =
     let counted = told .before .before in
     let args = counted .before .before .before .args in
     count-wrong (bookOf (args .book .now)) (args .saved .now) (counted .count .result) (counted .count .ensures)
-      (λ e. c .if2 .taken (told .count-in .ensures ∙ e))
+      (λ e. omega (arith, c .if2 .taken, told .count-in .ensures, e))
 
 link-of-requires : tie.Need-link-of-requires
 link-of-requires c κs = omega (arith, c .before .before .if1 .left)
