@@ -71,6 +71,7 @@ pub record RightEntry (b : List ℕ) (at : ℕ) : Type 0 where
   pub inside : at + 3 + getD b (at + 2) 0 ≤ length b
   pub short : getD b (at + 2) 0 ≤ 64
   pub kind : kindRight (getD b (at + 1) 0) ≡ true
+  pub listed : listRight (mediaType (getD b (at + 1) 0)) (items (take (getD b (at + 2) 0) (drop (at + 3) b))) ≡ true
 
 pub right-entry : (before : ℕ) (b : List ℕ) (at : ℕ) → entryNumber before b at ≡ 0 → RightEntry b at
 unfolding entryNumber
@@ -83,10 +84,14 @@ right-entry before b at e =
     let e₃ = not-failed (not (kindRight kind)) 6 _ refl (e₂ .1) in
     let e₄ = not-failed (ltb 64 size) 7 _ refl (e₃ .1) in
     let e₅ = not-failed (ltb (length b - (at + 3)) size) 1 _ refl (e₄ .1) in
+    let listed = listRight (mediaType kind) (items (take size (drop (at + 3) b))) in
+    let e₆ = not-failed (not listed) 7 _ refl (e₅ .1) in
     let headed = ltb-false (length b - at) 3 (e₁ .0) in
     let short = ltb-false 64 size (e₄ .0) in
     let whole = ltb-false (length b - (at + 3)) size (e₅ .0) in
-    record { inside = omega arith; short = short; kind = not-false (kindRight kind) (e₃ .0) }
+    record {
+      inside = omega arith; short = short; kind = not-false (kindRight kind) (e₃ .0); listed = not-false listed (e₆ .0)
+    }
 
 -- n right entries from a place of b on, and nothing behind them
 pub record RightEntries (n : ℕ) (b : List ℕ) (at : ℕ) : Type 0 where

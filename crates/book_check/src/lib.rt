@@ -35,7 +35,7 @@ fn entry_number(book: &[u8], at: usize, before: u8) -> u8
     if book.len() - list < size {
         return 1;
     }
-    if elements::walks::list_right(kind / 16, octets::part(book, list, size)) {
+    if book_list::list_right(kind / 16, octets::part(book, list, size)) {
         0
     } else {
         7

@@ -7,7 +7,8 @@ use native.Mathlib.Nat.{le-trans}
 use borrow.Author.Tests.{leb-true}
 use lib.ListN.{length, take, drop, getD}
 use Rattle.rules.specs.Octets.{front}
-use Rattle.rules.specs.Elements.{items, faultIn, stored}
+use Rattle.rules.specs.Elements.{items, faultIn, stored, couldStore}
+use Rattle.rules.specs.Book.{mediaType}
 use Rattle.rules.specs.Endpoints.{Endpoint, farRight, settledBy, endAt}
 use Rattle.rules.specs.Saved.{recordRoom, headIn, recordAt}
 use Rattle.rules.specs.Commands.{accept, reject, moves, rejects, rejectsFault, lengthRight, farIn, settled, setAt, obey}
@@ -18,14 +19,16 @@ use Rattle.rules.specs.declared.Head.{Head}
 use Rattle.rules.specs.declared.Fault.{Fault}
 use Rattle.rules.specs.declared.Rule.the-variants.{Setting}
 use Rattle.rules.specs.declared.Signal.the-variants.{SetConfiguration}
-use Rattle.rules.proofs.Storable.{stored-could, could-short}
+use Rattle.rules.proofs.RightBook.{entry-listed}
+use Rattle.rules.proofs.InOrder.{TransportFirst, transport-first}
+use Rattle.rules.proofs.Storable.{stored-could, could-short, could-clean, could-same}
 use Rattle.octets.specs.Patch.{patch}
 use Rattle.elements.specs.Marks.{noMarks, marksFrom}
 use Rattle.elements.specs.Walks.{checkOf}
 use Rattle.elements.specs.declared.marks.Marks.{Marks}
 use Rattle.elements.specs.declared.walks.Walked.{Walked}
 use Rattle.elements.specs.declared.walks.Walked.the-variants.{Failed, Clean}
-use Rattle.elements.proofs.Judging.{check-clean}
+use Rattle.elements.proofs.Judging.{told-marks, check-clean}
 use Rattle.elements_stored.specs.Stores.{markedStore, MarksFit}
 use Rattle.elements_stored.proofs.Stores.{set-stores}
 use Rattle.book.specs.declared.places.Place.{Place}
@@ -53,6 +56,23 @@ module _ {book records p reply : List ℕ} {at : Place} (call : Named SetConfigu
   -- what the check of the elements finds
   abbrev Finds : Walked → Type 0
   Finds w = checkOf Setting (items (take (at .size) (drop (at .from) book))) p 2 ≡ w
+
+  -- the list of the endpoint that was met begins with the media transport
+  pub listed : TransportFirst (take (at .size) (drop (at .from) book))
+  listed =
+      transport-first (mediaType (at .kind)) (take (at .size) (drop (at .from) book))
+        (entry-listed (entryIn book p at) (stands call .placed .right))
+
+  -- elements that could be stored as they stand
+  abbrev Could : Type 0
+  Could = couldStore (items (take (at .size) (drop (at .from) book))) (drop 2 p) ≡ true
+
+  could-finds : Could → Finds (Clean (marksFrom p 2 noMarks))
+  unfolding checkOf
+  could-finds c = sym (told-marks _ _ (could-clean (items (take (at .size) (drop (at .from) book))) (drop 2 p) c))
+
+  pub could-few : Could → length (drop 2 p) ≤ 64
+  could-few c = le-trans (could-short (take (at .size) (drop (at .from) book)) (drop 2 p) c) (few call)
 
   -- a reject leaves every octet of the records
   abbrev Refuses : ℕ → ℕ → Said → List ℕ → Type 0
@@ -117,3 +137,15 @@ module _ {book records p reply : List ℕ} {at : Place} (call : Named SetConfigu
           (config-short e) accepts
           (wrote
            ∙ ap₂ (λ (x : Head) (l : List ℕ). patch (at .index * recordRoom) (keptOctets x l) records) same (store-same e none))
+
+    pub whole-moves : {h h′ : Head} {said : Said} {config records′ : List ℕ}
+      → Could → config ≡ drop 2 p → h ≡ headIn (recordAt (at .index) records)
+      → h′ ≡ settledBy (farIn (getD p 1 0)) h → said ≡ saidOf (accept [])
+      → records′ ≡ patch (at .index * recordRoom) (keptOctets h′ config) records
+      → Obeys (obey SetConfiguration) book records p reply said records′ reply
+    whole-moves {h′ = h′} c whole loads same accepts wrote =
+        set-moves (could-finds c) refl loads same accepts
+          (wrote
+           ∙ ap (λ (l : List ℕ). patch (at .index * recordRoom) (keptOctets h′ l) records)
+               (whole ∙ sym (could-same (items (take (at .size) (drop (at .from) book))) (drop 2 p) c)
+                ∙ sym (store-same (could-finds c) refl)))

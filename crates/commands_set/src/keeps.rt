@@ -25,3 +25,13 @@ pub fn keep(records: &mut [u8], index: usize, head: Head, new: &[u8], fresh: Mar
     let length = store(records, index * RECORD + HEAD, new, fresh, old, left);
     set(records, index, head, length as u8);
 }
+
+// Stores into record `index` the head and the configuration, as it stands.
+pub fn keep_whole(records: &mut [u8], index: usize, head: Head, config: &[u8])
+    requires { ⌜ ((index + 1) * recordRoom ≤ length (now records)) × (length (now config) ≤ 64) ⌝ }
+    ensures { λ _. ⌜ now (records .exit)
+      ≡ patch (index * recordRoom) (keptOctets head (now (config .entry))) (now (records .entry)) ⌝ }
+{
+    octets::put(records, index * RECORD + HEAD, config);
+    set(records, index, head, config.len() as u8);
+}

@@ -1,9 +1,11 @@
 // 03 Set Configuration: the far SEID, then the elements.
 use crate::keeps::keep;
+use crate::keeps::keep_whole;
 use book::places::Place;
 use elements::marks::none;
 use elements::walks::check;
 use elements::walks::Walked;
+use elements_storable::could_store;
 use rules::FarSeid;
 use rules::Rule;
 use commands_reply::Said;
@@ -11,20 +13,22 @@ use saved_moves::settled;
 use saved::records::get;
 use saved_states::far_right;
 
-ghost use Rattle.rules.specs.Commands.{obey};
+ghost use mathlib.Core.Path.{_≡_};
+ghost use mathlib.Core.Bool.{true};
+ghost use lib.ListN.{getD};
+ghost use Rattle.rules.specs.Endpoints.{farRight};
+ghost use Rattle.rules.specs.Commands.{farIn, obey};
 ghost use Rattle.rules.specs.declared.Signal.the-variants.{SetConfiguration};
 ghost use Rattle.commands_reply.specs.Obeys.{Obeys};
 ghost use Rattle.commands_checks.specs.Named.{Named};
 
-pub fn set_configuration(book: &[u8], records: &mut [u8], payload: &[u8], reply: &mut [u8], at: Place) -> Said
-    requires { ⌜ Named SetConfiguration (now book) (now records) (now payload) (now reply) at ⌝ }
+// The elements in any order: each is checked, and they are stored in the order of a configuration.
+fn set_picked(book: &[u8], records: &mut [u8], payload: &[u8], reply: &mut [u8], at: Place, far: FarSeid) -> Said
+    requires { ⌜ Named SetConfiguration (now book) (now records) (now payload) (now reply) at
+      × (far ≡ farIn (getD (now payload) 1 0)) × (farRight far ≡ true) ⌝ }
     ensures { λ r. ⌜ Obeys (obey SetConfiguration) (now (book .entry)) (now (records .entry)) (now (payload .entry))
       (now (reply .entry)) r (now (records .exit)) (now (reply .exit)) ⌝ }
 {
-    let far = FarSeid(payload[1] / 4);
-    if !far_right(far) {
-        return commands_reply::rejected_for(reply, 0, 0x18);
-    }
     let walked = check(Rule::Setting, octets::part(book, at.from, at.size), payload, 2);
     match walked {
         Walked::Failed(fault) => commands_reply::rejected_element(reply, fault),
@@ -35,4 +39,22 @@ pub fn set_configuration(book: &[u8], records: &mut [u8], payload: &[u8], reply:
             commands_reply::accepted()
         }
     }
+}
+
+// Elements that come in the order of a configuration, as most do, are stored as they came.
+pub fn set_configuration(book: &[u8], records: &mut [u8], payload: &[u8], reply: &mut [u8], at: Place) -> Said
+    requires { ⌜ Named SetConfiguration (now book) (now records) (now payload) (now reply) at ⌝ }
+    ensures { λ r. ⌜ Obeys (obey SetConfiguration) (now (book .entry)) (now (records .entry)) (now (payload .entry))
+      (now (reply .entry)) r (now (records .exit)) (now (reply .exit)) ⌝ }
+{
+    let far = FarSeid(payload[1] / 4);
+    if !far_right(far) {
+        return commands_reply::rejected_for(reply, 0, 0x18);
+    }
+    if !could_store(octets::part(book, at.from, at.size), payload, 2) {
+        return set_picked(book, records, payload, reply, at, far);
+    }
+    let h = get(records, at.index);
+    keep_whole(records, at.index, settled(h, far), octets::part(payload, 2, payload.len() - 2));
+    commands_reply::accepted()
 }

@@ -1,29 +1,16 @@
 // 0D Delay Report: the delay in tenths of a millisecond, high octet first.
 use book::places::Place;
 use commands_reply::Said;
+use saved_keeps::takes_delay;
 use saved_moves::delayed;
 use saved::records::config;
 use saved::records::get;
 use saved::records::set_head;
 
-ghost use mathlib.Core.Path.{_≡_};
-ghost use mathlib.Core.Bool.{_&&_};
-ghost use Rattle.rules.specs.Elements.{items, has};
-ghost use Rattle.rules.specs.Book.{isSource};
 ghost use Rattle.rules.specs.Commands.{obey};
 ghost use Rattle.rules.specs.declared.Signal.the-variants.{DelayReport};
 ghost use Rattle.commands_reply.specs.Obeys.{Obeys};
 ghost use Rattle.commands_checks.specs.Named.{Named};
-
-// Whether a delay can be reported: to a source whose configuration has category 8, which has no value.
-fn takes_delay(kind: u8, config: &[u8]) -> bool
-    ensures { λ r. ⌜ r ≡ isSource kind && has 8 (items (now (config .entry))) ⌝ }
-{
-    if kind / 8 % 2 != 0 {
-        return false;
-    }
-    elements_offers::offers(config, 0, 8, b"")
-}
 
 pub fn delay_report(book: &[u8], records: &mut [u8], payload: &[u8], reply: &mut [u8], at: Place) -> Said
     requires { ⌜ Named DelayReport (now book) (now records) (now payload) (now reply) at ⌝ }

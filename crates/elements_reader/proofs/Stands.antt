@@ -7,7 +7,7 @@ use native.Mathlib.Nat.{add-zero}
 use native.Mathlib.Numerals.{add-one, add-two}
 use native.Mathlib.Omega.{arith}
 use lib.ListN.{length, take, drop, getD, length-drop, drop-of-length-le}
-use lib.Seq.{drop-cons, drop-drop, getD-drop}
+use lib.Seq.{drop-cons, drop-drop, getD-drop, getD-take, length-take-le}
 use lib.Dec.{leb}
 use borrow.Author.Tests.{le-leb, lt-leb, leb-true, leb-false}
 use Rattle.rules.specs.Elements.{whole, items}
@@ -66,6 +66,17 @@ stands l at = go (drop at l) (length-drop at l) (getD-drop at l 0 0) (getD-drop 
 
 pub stands-whole : (l : List ℕ) (at c n first : ℕ) → Whole c n first ≡ elementAt l at → Stands l at (Whole c n first)
 stands-whole l at c n first e = subst (Stands l at) (sym e) (stands l at)
+
+-- a value of n octets that is in the list, and its first octet
+pub part-length : (l : List ℕ) (first n : ℕ) → first + n ≤ length l → length (take n (drop first l)) ≡ n
+part-length l first n h = length-take-le n (drop first l) (rw length-drop (omega arith))
+
+pub part-first : (l : List ℕ) (first n : ℕ) → 1 ≤ n → getD (take n (drop first l)) 0 0 ≡ getD l first 0
+part-first l first n h =
+    getD-take n (drop first l) 0 0 (omega arith) ∙ getD-drop first l 0 0 ∙ ap (λ i. getD l i 0) (add-zero first)
+
+pub value-length : (l : List ℕ) (at c n first : ℕ) → Whole c n first ≡ elementAt l at → length (take n (drop first l)) ≡ n
+value-length l at c n first e = part-length l first n (stands-whole l at c n first e .3)
 
 -- ---- The items from there on
 

@@ -8,7 +8,7 @@ use native.Mathlib.Numerals.{add-one}
 use native.Mathlib.Omega.{arith}
 use lib.ListN.{length, take, drop, set, length-append, length-take, length-drop, take-append-drop}
 use lib.Seq.{take-at, drop-at, length-take-le, drop-drop, take-take, take-append-le, drop-append-le, take-append-add}
-use lib.Seq.{drop-append-add, take-append-seam, take-nil, set-split, set-at}
+use lib.Seq.{drop-append-add, take-append-seam, take-nil, take-add, set-split, set-at, sets, sets-eq}
 use Rattle.rules.specs.Octets.{front}
 use Rattle.octets.specs.Patch.{patch, part}
 
@@ -179,12 +179,45 @@ patch-append at s t d h =
     ∙ ap (λ (x : List ℕ). a ++ (s ++ (t ++ x))) (drop-drop (length t) (at + length s) d ∙ ap (λ (n : ℕ). drop n d) e)
     ∙ ap (λ (x : List ℕ). a ++ x) (sym (append-assoc s t (drop (at + length (s ++ t)) d)))
 
+-- a second write over all of the first
+patch-over : (at : ℕ) (s t d : List ℕ) → length s ≤ length t → at + length t ≤ length d
+  → patch at t (patch at s d) ≡ patch at t d
+unfolding patch
+patch-over at s t d h k =
+    ap₂ (λ (x y : List ℕ). x ++ (t ++ y))
+      (take-at (take at d) (s ++ drop (at + length s) d) at (length-take-le at d (omega arith)))
+      (drop-patch (at + length t) at s d (omega arith) (omega arith))
+
+-- the first i octets are written, then n from the k-th on, of which some may be written already: that is the first k + n
+pub patch-further : (at i k n : ℕ) (s d : List ℕ) → k ≤ i → i ≤ k + n → k + n ≤ length s → at + (k + n) ≤ length d
+  → patch (at + k) (part k n s) (patch at (take i s) d) ≡ patch at (take (k + n) s) d
+unfolding part
+patch-further at i k n s d p q r h =
+    let a = take k s in
+    let b = take (i - k) (drop k s) in
+    let c = take n (drop k s) in
+    let la : length a ≡ k = length-take-le k s (omega arith) in
+    let lb : length b ≡ i - k = length-take-le (i - k) (drop k s) (simp length-drop (omega arith)) in
+    let lc : length c ≡ n = length-take-le n (drop k s) (simp length-drop (omega arith)) in
+    let e : k + (i - k) ≡ i = omega arith in
+    let first : take i s ≡ a ++ b = ap (λ (x : ℕ). take x s) (sym e) ∙ take-add k (i - k) s in
+    ap₂ (λ (x : ℕ) (l : List ℕ). patch x c (patch at l d)) (ap (λ (x : ℕ). at + x) (sym la)) first
+    ∙ ap (patch (at + length a) c) (sym (patch-append at a b d (omega arith)))
+    ∙ patch-over (at + length a) b c (patch at a d) (omega arith) (omega (arith, length-patch at a d (omega arith)))
+    ∙ patch-append at a c d (omega arith)
+    ∙ ap (λ (l : List ℕ). patch at l d) (sym (take-add k n s))
+
 -- an octet, and a write behind it
 pub patch-behind : (at x : ℕ) (s d : List ℕ) → at + 1 + length s ≤ length d → patch (at + 1) s (set d at x) ≡ patch at (x ∷ s) d
 unfolding patch
 patch-behind at x s d h =
     ap (patch (at + 1) s) (set-split d at x (omega arith) ∙ ap (λ (n : ℕ). take at d ++ x ∷ drop n d) (sym (add-one at)))
     ∙ patch-append at (x ∷ []) s d h
+
+-- octets stored one behind the other
+pub patch-sets : (at : ℕ) (s d : List ℕ) → at + length s ≤ length d → sets d at s ≡ patch at s d
+unfolding patch
+patch-sets at s d h = sets-eq s d at h ∙ append-assoc (take at d) s (drop (at + length s) d)
 
 -- the third octet written anew
 pub patch-third : (at x y m n : ℕ) (s d : List ℕ) → at ≤ length d

@@ -9,7 +9,7 @@ use native.Mathlib.Omega.{arith}
 use lib.ListN.{length, take, drop, length-take, length-drop}
 use lib.Seq.{take-all}
 use lib.Dec.{leb, ltb, eqb, lit≤}
-use borrow.Author.Tests.{lt-ltb, le-ltb, le-leb, lt-leb, leb-true, leb-false, ne-eqb}
+use borrow.Author.Tests.{lt-ltb, le-ltb, le-leb, lt-leb, leb-true, leb-false, eq-eqb, ne-eqb}
 use Rattle.rules.specs.Octets.{if_then_else_, front, between}
 use Rattle.rules.specs.Packets.{Message, sizeRight, longest}
 use Rattle.rules.specs.Cutting.{Headers, avdtp, packetsFor, partOf, header, countOf, packetAt}
@@ -159,6 +159,19 @@ header-small total zero = go (eqb total 1)
     go false = lit≤ tt
 header-small total (suc k) = lit≤ tt
 
+pub further-size : (total k : ℕ) → (k ≡ 0 → ⊥) → 1 ≡ headerOf avdtp total k
+unfolding headerOf
+further-size total zero h = absurd (h refl)
+further-size total (suc k) h = refl
+
+pub single-size : (total k : ℕ) → k ≡ 0 → total ≡ 1 → 2 ≡ headerOf avdtp total k
+unfolding headerOf
+single-size total k z e = rw (z, eq-eqb total 1 e)
+
+pub start-size : (total k : ℕ) → k ≡ 0 → (total ≡ 1 → ⊥) → 3 ≡ headerOf avdtp total k
+unfolding headerOf
+start-size total k z h = rw (z, ne-eqb total 1 h)
+
 -- a part is what remains of the payload, as far as the packet has room
 part-of : (h : Headers) (m k : ℕ) {count : ℕ} (payload : List ℕ) → Counts h m (length payload) count
   → partOf h m count k payload ≡ take (m - headerOf h count k) (drop (before h m k) payload)
@@ -217,22 +230,18 @@ module _ {size : ℕ} {m : Message} {k total : ℕ} (n : Numbered size m k total
   pub too-short : length area < head + rest → cutRefusal size m k area ≡ 9
   too-short short = no-room n area r (omega (arith, whole-size))
 
-  module _ (octets h p a b : List ℕ) (is-octets : take (headerOf avdtp total k) octets ≡ header m total k)
-      (is-part : h ≡ part 0 head octets) (is-p : p ≡ part from rest (m .payload))
-      (is-a : a ≡ patch 0 h area) (is-b : b ≡ patch head p a) (fits : head + rest ≤ length area) where
-    is-h : h ≡ header m total k
-    unfolding part
-    is-h = is-part ∙ ap (λ (x : ℕ). take x octets) is-head ∙ is-octets
-
-    joined : h ++ p ≡ packetAt size m k
+  module _ (p a b : List ℕ) (is-p : p ≡ part from rest (m .payload)) (is-a : a ≡ patch 0 (header m total k) area)
+      (is-b : b ≡ patch head p a) (fits : head + rest ≤ length area) where
+    joined : header m total k ++ p ≡ packetAt size m k
     unfolding packetAt
     joined =
-        ap₂ _++_ is-h (is-p ∙ rw (is-rest, is-head, is-from) (cut-part n))
+        ap (λ (x : List ℕ). header m total k ++ x) (is-p ∙ rw (is-rest, is-head, is-from) (cut-part n))
         ∙ ap (λ (t : ℕ). header m t k ++ partOf avdtp size t k (m .payload)) (n .whole)
 
     in-place : b ≡ front (packetAt size m k) area
     in-place =
-        let e : head ≡ length h = is-head ∙ sym (ap length is-h ∙ header-length m total k) in
+        let h = header m total k in
+        let e : head ≡ length h = is-head ∙ sym (header-length m total k) in
         is-b ∙ ap₂ (λ (x : ℕ) (y : List ℕ). patch x p y) e (is-a ∙ sym (front-patch h area))
         ∙ front-more h p area
         ∙ ap (λ (x : List ℕ). front x area) joined

@@ -4,10 +4,11 @@ use rules::Piece;
 ghost use mathlib.Core.Path.{_≡_};
 ghost use mathlib.Core.List.{List};
 ghost use Prim.Native.Nat.{ℕ, _≤_, _<_, min};
-ghost use lib.ListN.{take};
+ghost use lib.ListN.{length};
 ghost use Rattle.rules.specs.Cutting.{avdtp, packetsFor, header as headerFor};
 ghost use Rattle.rules.specs.Host.{packetsCall, Cut, cutCall};
 ghost use Rattle.rules.proofs.Pieces.{headerOf, before};
+ghost use Rattle.octets.specs.Patch.{patch};
 
 // How many packets a payload of this length takes: one, or a start and then as many further ones as hold the rest.
 fn count(size: usize, length: usize) -> usize
@@ -49,24 +50,32 @@ fn header_size(total: usize, index: usize) -> usize
     3
 }
 
-// That header; behind one that is shorter than three octets stand zeros.
-fn header(label: u8, mtype: u8, signal: u8, total: usize, index: usize) -> [u8; 3]
-    requires { ⌜ label < 16 ⌝ ∗ ⌜ mtype < 4 ⌝ ∗ ⌜ index < total ⌝ ∗ ⌜ total ≤ 255 ⌝ }
-    ensures { λ r. ⌜ ((p : List ℕ) → take (headerOf avdtp total index) r
-        ≡ headerFor (record { header = record { label = label; mtype = mtype; signal = signal }; payload = p }) total index) ⌝ }
+// Writes that header at the front of `area`.
+fn put_header(area: &mut [u8], label: u8, mtype: u8, signal: u8, total: usize, index: usize)
+    requires { ⌜ label < 16 ⌝ ∗ ⌜ mtype < 4 ⌝ ∗ ⌜ index < total ⌝ ∗ ⌜ total ≤ 255 ⌝
+      ∗ ⌜ headerOf avdtp total index ≤ length (now area) ⌝ }
+    ensures { λ _. ⌜ ((p : List ℕ) → now (area .exit) ≡ patch 0
+        (headerFor (record { header = record { label = label; mtype = mtype; signal = signal }; payload = p }) total index)
+        (now (area .entry))) ⌝ }
 {
     // octet 0 of a single, whose packet type is 0; the packet type counts by 4
     let single = label * 16 + mtype;
     if index != 0 {
         if index + 1 < total {
-            return [single + 8, 0, 0];
+            area[0] = single + 8;
+            return;
         }
-        return [single + 12, 0, 0];
+        area[0] = single + 12;
+        return;
     }
     if total == 1 {
-        return [single, signal, 0];
+        area[0] = single;
+        area[1] = signal;
+        return;
     }
-    [single + 4, total as u8, signal]
+    area[0] = single + 4;
+    area[1] = total as u8;
+    area[2] = signal;
 }
 
 // Octets of payload before packet number `index`.
@@ -136,8 +145,7 @@ pub fn cut(
     if area.len() < head_size + part_size {
         return refused(9);
     }
-    let head = header(label, mtype, signal, total, index);
-    octets::put(area, 0, octets::part(&head, 0, head_size));
+    put_header(area, label, mtype, signal, total, index);
     octets::put(area, head_size, octets::part(payload, from, part_size));
     Piece {
         number: 0,

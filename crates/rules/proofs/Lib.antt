@@ -1,7 +1,9 @@
 pub mod Tests
 pub mod Traces
 pub mod Lists
+pub mod InOrder
 pub mod Storable
+pub mod StoredInOrder
 pub mod Pieces
 pub mod ReadsBack
 pub mod SavedReads

@@ -6,7 +6,7 @@ use native.Mathlib.Omega.{arith}
 use mathlib.Core.Path.{_≡_, refl, sym, ap, ap₂, _∙_}
 use mathlib.Core.List.{List, [], _∷_, _++_}
 use mathlib.Core.Bool.{Bool, true, false}
-use lib.ListN.{length, take, drop, length-append}
+use lib.ListN.{length, take, drop, length-append, take-append-drop}
 use lib.Seq.{take-append-seam, drop-append-seam, drop-nil, length-take-le}
 use lib.Dec.{leb}
 use borrow.Author.Tests.{le-leb, lt-leb, leb-true}
@@ -57,6 +57,25 @@ items-written [] e = items-none
 items-written (short c ∷ is) e = clash refl (sym e)
 items-written (whole c v ∷ is) e =
     items-element c v (written is) ∙ ap (λ (r : List Item). whole c v ∷ r) (items-written is e)
+
+-- a list that is read as whole elements is those elements written
+past-written : (l : List ℕ) (k : ℕ) → each-of isWhole (itemsPast l k) ≡ true → written (itemsPast l k) ≡ drop k l
+unfolding itemsPast headed written element each-of isWhole
+past-written [] k e = sym (drop-nil k)
+past-written (x ∷ xs) (suc k) e = past-written xs k e
+past-written (x ∷ []) zero e = clash refl (sym e)
+past-written (x ∷ n ∷ l) zero e = go (told (leb n (length l))) (past-written l n)
+  where
+    go : Told? (leb n (length l)) → (each-of isWhole (itemsPast l n) ≡ true → written (itemsPast l n) ≡ drop n l)
+        → written (itemsPast (x ∷ n ∷ l) 0) ≡ x ∷ n ∷ l
+    go (passed t) rest =
+        let behind = rest (rw t at e) in
+        rw (t, behind, length-take-le n l (leb-true n (length l) t))
+          (ap (λ (r : List ℕ). x ∷ n ∷ r) (take-append-drop n l))
+    go (failed t) rest = clash refl (sym (rw t at e))
+
+pub written-items : (l : List ℕ) → each-of isWhole (items l) ≡ true → written (items l) ≡ l
+written-items l e = past-written l 0 e
 
 -- what 02 shows is whole
 shown-whole : (is : List Item) → each-of isWhole (upToCodec is) ≡ true

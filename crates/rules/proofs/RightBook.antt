@@ -30,6 +30,10 @@ pub entry-right : (n : Entry) → between 1 62 (n .seid .0) ≡ true → leb (le
 unfolding entryRight
 entry-right n s c l = and-both _ _ (and-both (between 1 62 (n .seid .0)) (leb (length (n .caps)) 64) s c) l
 
+pub entry-listed : (n : Entry) → entryRight n ≡ true → listRight (mediaType (n .kind)) (items (n .caps)) ≡ true
+unfolding entryRight
+entry-listed n e = and-r (between 1 62 (n .seid .0) && leb (length (n .caps)) 64) _ e
+
 pub entries-length : (n : ℕ) (l : List ℕ) → length (entriesIn n l) ≡ n
 unfolding entriesIn
 entries-length zero l = refl

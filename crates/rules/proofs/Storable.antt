@@ -28,17 +28,17 @@ use Rattle.rules.proofs.Lists.{items-none, items-element, written-lengt
 -- ---- The value that is picked
 
 -- the value of the first element of category c
-valueOf : ℕ → List Item → Option (List ℕ)
+unfoldable pub valueOf : ℕ → List Item → Option (List ℕ)
 valueOf c [] = none
 valueOf c (short d ∷ is) = valueOf c is
 valueOf c (whole d v ∷ is) = if eqb c d then some v else valueOf c is
 
-isThere : Option (List ℕ) → Bool
+unfoldable pub isThere : Option (List ℕ) → Bool
 isThere none = false
 isThere (some v) = true
 
 -- the value as it is stored
-keptOf : ℕ → Option (List ℕ) → Option (List ℕ)
+unfoldable pub keptOf : ℕ → Option (List ℕ) → Option (List ℕ)
 keptOf c none = none
 keptOf c (some v) = some (kept c v)
 
@@ -47,7 +47,7 @@ octetsOf : ℕ → Option (List ℕ) → List ℕ
 octetsOf c none = []
 octetsOf c (some v) = element c v
 
-has-value : (c : ℕ) (is : List Item) → has c is ≡ isThere (valueOf c is)
+pub has-value : (c : ℕ) (is : List Item) → has c is ≡ isThere (valueOf c is)
 unfolding has some-of isOf valueOf isThere
 has-value c [] = refl
 has-value c (short d ∷ is) = has-value c is
@@ -119,7 +119,7 @@ kept-offered caps =
 
 -- ---- A stored configuration, read again
 
-itemsOf : ℕ → Option (List ℕ) → List Item
+unfoldable pub itemsOf : ℕ → Option (List ℕ) → List Item
 itemsOf c none = []
 itemsOf c (some v) = whole c v ∷ []
 
@@ -154,7 +154,7 @@ items-octets c none l = refl
 items-octets c (some v) l = items-element c v l
 
 -- the items of what is picked
-items-picks : (c : ℕ) (cs : List ℕ) (is : List Item)
+pub items-picks : (c : ℕ) (cs : List ℕ) (is : List Item)
     → items (picks (c ∷ cs) is) ≡ itemsOf c (keptOf c (valueOf c is)) ++ items (picks cs is)
 unfolding picks
 items-picks c cs is =
@@ -213,11 +213,11 @@ stored-again is =
 -- ---- The checks
 
 -- An element with no fault of its own: it passes in every list where its category was not seen before.
-record Fine (rule : Rule) (caps : List Item) (c : ℕ) (v : List ℕ) : Type 0 where
-  known : isStrange (categoryOf c) ≡ false
-  free : fixed rule (categoryOf c) ≡ false
-  long : lengthCode (categoryOf c) (length v) ≡ 0
-  given : offered caps c v ≡ true
+pub record Fine (rule : Rule) (caps : List Item) (c : ℕ) (v : List ℕ) : Type 0 where
+  pub known : isStrange (categoryOf c) ≡ false
+  pub free : fixed rule (categoryOf c) ≡ false
+  pub long : lengthCode (categoryOf c) (length v) ≡ 0
+  pub given : offered caps c v ≡ true
 
 else-clean : (b : Bool) (n m : ℕ) → (if b then suc n else m) ≡ 0 → (b ≡ false) × (m ≡ 0)
 else-clean true n m e = absurd (suc-ne-zero n e)
@@ -238,7 +238,7 @@ fine-of rule caps seen c v e =
     let (given, e₅) = else-clean (not (offered caps c v)) 0x28 0 e₄ in
     record { known = known; free = free; long = long; given = not-false (offered caps c v) given }
 
-fine-code : (rule : Rule) (caps : List Item) (seen : List ℕ) (c : ℕ) (v : List ℕ) → Fine rule caps c v → member c seen ≡ false
+pub fine-code : (rule : Rule) (caps : List Item) (seen : List ℕ) (c : ℕ) (v : List ℕ) → Fine rule caps c v → member c seen ≡ false
     → itemCode rule caps seen (whole c v) ≡ 0
 unfolding itemCode
 fine-code rule caps seen c v f new = rw (f .known, f .free, new, f .long, f .given)
@@ -270,7 +270,7 @@ unfolding judge
 reconfiguring-asks caps seen i = refl
 
 -- each element that can be picked is fine
-abbrev AllFine : Rule → List Item → List Item → Type 0
+abbrev pub AllFine : Rule → List Item → List Item → Type 0
 AllFine rule caps is = (c : ℕ) (v : List ℕ) → valueOf c is ≡ some v → Fine rule caps c v
 
 fine-first : (rule : Rule) (caps : List Item) (d : ℕ) (w : List ℕ) (is : List Item) → Fine rule caps d w
@@ -293,7 +293,7 @@ clean-fine rule asks caps seen (whole d w ∷ is) e =
     fine-first rule caps d w is (fine-of rule caps seen d w (sym (asks caps seen (whole d w)) ∙ clean-head _ _ e))
       (clean-fine rule asks caps (d ∷ seen) is (clean-tail _ _ e))
 
-fine-kept : (caps : List Item) (c : ℕ) (v : List ℕ) → Fine Setting caps c v → Fine Setting caps c (kept c v)
+pub fine-kept : (caps : List Item) (c : ℕ) (v : List ℕ) → Fine Setting caps c v → Fine Setting caps c (kept c v)
 fine-kept caps c v f =
     record {
       known = f .known;
@@ -401,10 +401,10 @@ picks-clean caps is fine (c ∷ cs) seen d new one seven =
 
 -- ---- Set Configuration's check: no fault of an element, and 1 and 7 are there
 
-record Sound (caps is : List Item) : Type 0 where
-  fine : AllFine Setting caps is
-  one : has 1 is ≡ true
-  seven : has 7 is ≡ true
+pub record Sound (caps is : List Item) : Type 0 where
+  pub fine : AllFine Setting caps is
+  pub one : has 1 is ≡ true
+  pub seven : has 7 is ≡ true
 
 setting-sound : (caps is : List Item) → faultIn Setting caps is .code ≡ 0 → Sound caps is
 unfolding faultIn member
@@ -415,13 +415,15 @@ setting-sound caps is e =
       seven = clean-has caps 7 (λ seen z. both-seen seen z .1) [] is e
     }
 
-could-sound : (caps : List Item) (l : List ℕ) → couldStore caps l ≡ true → Sound caps (items l)
+pub could-clean : (caps : List Item) (l : List ℕ) → couldStore caps l ≡ true → faultIn Setting caps (items l) .code ≡ 0
 unfolding couldStore
-could-sound caps l e =
-    setting-sound caps (items l)
-      (eqb-true _ 0 (and-l (eqb (faultIn Setting caps (items l) .code) 0) (sameOctets (stored (items l)) l) e))
+could-clean caps l e =
+    eqb-true _ 0 (and-l (eqb (faultIn Setting caps (items l) .code) 0) (sameOctets (stored (items l)) l) e)
 
-could-same : (caps : List Item) (l : List ℕ) → couldStore caps l ≡ true → stored (items l) ≡ l
+pub could-sound : (caps : List Item) (l : List ℕ) → couldStore caps l ≡ true → Sound caps (items l)
+could-sound caps l e = setting-sound caps (items l) (could-clean caps l e)
+
+pub could-same : (caps : List Item) (l : List ℕ) → couldStore caps l ≡ true → stored (items l) ≡ l
 unfolding couldStore
 could-same caps l e =
     same-octets (stored (items l)) l

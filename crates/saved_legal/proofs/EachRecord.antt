@@ -5,24 +5,25 @@ use native.Mathlib.Omega.{arith}
 use mathlib.Core.Path.{_≡_, refl, sym, ap, ap₂, _∙_}
 use mathlib.Core.List.{List, [], _∷_}
 use mathlib.Core.Bool.{Bool, true, false, not, _&&_}
-use lib.ListN.{length, take, drop, getD, length-take, length-drop}
+use lib.ListN.{length, take, drop, getD, length-drop}
 use lib.Seq.{drop-drop}
 use lib.Dec.{leb, eqb}
 use borrow.Author.Tests.{leb-true, eq-eqb, ne-eqb}
 use Rattle.rules.specs.Octets.{if_then_else_, sameOctets, isEmpty}
-use Rattle.rules.specs.Book.{Entry, Book, entriesIn, bookOf}
+use Rattle.rules.specs.Book.{Entry, Book, mediaType, entriesIn, bookOf}
 use Rattle.rules.specs.Endpoints.{isReported, isIdle, isAwaited, channelRight, takesDelay, delayRight, keepsNothing}
 use Rattle.rules.specs.Endpoints.{keepsSettings, legalEnd, legalEnds, awaiting}
 use Rattle.rules.specs.Saved.{recordRoom, headRoom, configRoom, unused, channelIn, headIn, configIn, endpointIn, recordRight}
 use Rattle.rules.specs.Saved.{endsIn, recordsRight}
 use Rattle.rules.proofs.Tests.{and-l, and-r}
 use Rattle.rules.proofs.Places.{at-most-one}
-use Rattle.rules.proofs.SavedReads.{octetsFrom, octets-from}
+use Rattle.rules.proofs.InOrder.{TransportFirst, transport-first}
 use Rattle.octets.specs.Patch.{part}
+use Rattle.book.proofs.Entries.{RightEntry}
 use Rattle.book.proofs.Found.{entryBy, entries-first, book-length, all-counted}
 use Rattle.rules.specs.declared.Head.{Head}
 use Rattle.saved_keeps.specs.Settings.{settingsRight}
-use Rattle.saved_legal.specs.Legal.{usedRight, fourZero, awaitsIn, recordLegal, recordsLegal}
+use Rattle.saved_legal.specs.Legal.{usedRight, awaitsIn, recordLegal, recordsLegal}
 
 -- ---- One record
 
@@ -31,53 +32,15 @@ pub used-wrong : (r : List ℕ) → usedRight r ≡ false → false ≡ recordRi
 unfolding recordRight usedRight
 used-wrong r e = rw e
 
--- the octets without a use, four by four
-and-eight : (a b c d e f g h : Bool)
-  → a && (b && (c && (d && (e && (f && (g && (h && true))))))) ≡ (a && (b && (c && d))) && (e && (f && (g && h)))
-and-eight false b c d e f g h = refl
-and-eight true false c d e f g h = refl
-and-eight true true false d e f g h = refl
-and-eight true true true false e f g h = refl
-and-eight true true true true false f g h = refl
-and-eight true true true true true false g h = refl
-and-eight true true true true true true false h = refl
-and-eight true true true true true true true true = refl
-and-eight true true true true true true true false = refl
+-- then those without
+pub unused-decide : (r : List ℕ) → usedRight r ≡ true → sameOctets (part 8 8 r) unused ≡ recordRight r
+unfolding recordRight usedRight part
+unused-decide r used = sym (rw used)
 
-eight-behind : (r : List ℕ) → length r ≡ recordRoom
-  → take 8 (drop 8 r)
-    ≡ getD r 8 0 ∷ getD r 9 0 ∷ getD r 10 0 ∷ getD r 11 0 ∷ getD r 12 0 ∷ getD r 13 0 ∷ getD r 14 0 ∷ getD r 15 0 ∷ []
-unfolding octetsFrom
-eight-behind r long = sym (octets-from 8 8 r (omega arith))
-
-unused-fours : (r : List ℕ) → length r ≡ recordRoom
-  → sameOctets (take 8 (drop 8 r)) unused
-    ≡ fourZero (getD r 8 0) (getD r 9 0) (getD r 10 0) (getD r 11 0)
-      && fourZero (getD r 12 0) (getD r 13 0) (getD r 14 0) (getD r 15 0)
-unfolding sameOctets
-unused-fours r long =
-    ap (λ (l : List ℕ). sameOctets l unused) (eight-behind r long)
-    ∙ and-eight (eqb (getD r 8 0) 0) (eqb (getD r 9 0) 0) (eqb (getD r 10 0) 0) (eqb (getD r 11 0) 0) (eqb (getD r 12 0) 0)
-        (eqb (getD r 13 0) 0) (eqb (getD r 14 0) 0) (eqb (getD r 15 0) 0)
-
-module _ (r : List ℕ) (long : length r ≡ recordRoom) (used : usedRight r ≡ true) where
-  by-fours : recordRight r
-    ≡ fourZero (getD r 8 0) (getD r 9 0) (getD r 10 0) (getD r 11 0)
-      && fourZero (getD r 12 0) (getD r 13 0) (getD r 14 0) (getD r 15 0)
-  unfolding recordRight usedRight
-  by-fours = (rw used) ∙ unused-fours r long
-
-  pub first-four-wrong : fourZero (getD r 8 0) (getD r 9 0) (getD r 10 0) (getD r 11 0) ≡ false → false ≡ recordRight r
-  first-four-wrong e = sym (by-fours ∙ rw e)
-
-  pub last-four-decide : fourZero (getD r 8 0) (getD r 9 0) (getD r 10 0) (getD r 11 0) ≡ true
-    → fourZero (getD r 12 0) (getD r 13 0) (getD r 14 0) (getD r 15 0) ≡ recordRight r
-  last-four-decide e = sym (by-fours ∙ rw e)
-
--- a part is no longer than was asked for
-pub part-short : (from size : ℕ) (l : List ℕ) → size ≤ 64 → length (part from size l) ≤ 64
+-- an entry's list begins with the media transport
+pub entry-first : (b : List ℕ) (at : ℕ) → RightEntry b at → TransportFirst (part (at + 3) (getD b (at + 2) 0) b)
 unfolding part
-part-short from size l h = rw length-take (omega arith)
+entry-first b at r = transport-first (mediaType (getD b (at + 1) 0)) (take (getD b (at + 2) 0) (drop (at + 3) b)) (r .listed)
 
 empty-taken : (k : ℕ) (l : List ℕ) → 1 ≤ length l → isEmpty (take k l) ≡ eqb k 0
 unfolding isEmpty

@@ -2,13 +2,14 @@
 use Prim.Native.Nat.{ℕ, _+_}
 use mathlib.Core.List.{List}
 use mathlib.Core.Bool.{Bool, _&&_, _||_}
-use lib.ListN.{getD}
+use lib.ListN.{take, getD}
 use lib.Dec.{leb, eqb}
-use Rattle.rules.specs.Octets.{if_then_else_}
+use Rattle.rules.specs.Octets.{if_then_else_, sameOctets}
 use Rattle.rules.specs.Book.{Entry, Book}
-use Rattle.rules.specs.Endpoints.{isAwaited, legalEnd, legalEnds, awaiting}
-use Rattle.rules.specs.Saved.{configRoom, channelIn, endpointIn, recordRight, endsIn, recordsRight, statePlace, channelPlace}
-use Rattle.rules.specs.Saved.{delayMarkPlace, delayHighPlace, delayLowPlace, configLengthPlace}
+use Rattle.rules.specs.Endpoints.{idleHead, isAwaited, legalEnd, legalEnds, awaiting}
+use Rattle.rules.specs.Saved.{headRoom, configRoom, channelIn, endpointIn, recordRight, headOctets, endsIn, recordsRight}
+use Rattle.rules.specs.Saved.{statePlace, channelPlace, delayMarkPlace, delayHighPlace, delayLowPlace, configLengthPlace}
+use Rattle.rules.specs.declared.OurSeid.{OurSeid}
 
 -- the channels that a record awaits, by its octet for the channel
 unfoldable pub awaitsIn : ℕ → ℕ
@@ -22,9 +23,9 @@ usedRight r =
       || (eqb (getD r delayMarkPlace 0) 0 && eqb (getD r delayHighPlace 0) 0 && eqb (getD r delayLowPlace 0) 0))
     && leb (getD r configLengthPlace 0) configRoom
 
--- four of those that have none
-abbrev pub fourZero : ℕ → ℕ → ℕ → ℕ → Bool
-fourZero a b c d = eqb a 0 && (eqb b 0 && (eqb c 0 && eqb d 0))
+-- whether a record's head is that of an idle endpoint
+unfoldable pub idlesIn : OurSeid → List ℕ → Bool
+idlesIn s r = sameOctets (take headRoom r) (headOctets (idleHead s) 0)
 
 unfoldable pub recordLegal : Entry → List ℕ → Bool
 recordLegal n r = recordRight r && legalEnd n (endpointIn r)

@@ -1,5 +1,6 @@
 // The records of a saved connection, each against its entry of the book.
 use book::places::count;
+use octets_alone::alone;
 use rules::Channel;
 use rules::OurSeid;
 use rules::State;
@@ -11,6 +12,7 @@ use rules::layout::DELAY_LOW;
 use rules::layout::DELAY_MARK;
 use rules::layout::HEAD;
 use rules::layout::RECORD;
+use rules::layout::SEID;
 use rules::layout::STATE;
 use rules::layout::UNUSED;
 use saved::records::load;
@@ -28,7 +30,8 @@ ghost use lib.Dec.{eqb};
 ghost use Rattle.rules.specs.Book.{bookNumber, bookOf};
 ghost use Rattle.rules.specs.Endpoints.{channelRight};
 ghost use Rattle.rules.specs.Saved.{recordRoom, recordRight};
-ghost use Rattle.saved_legal.specs.Legal.{usedRight, fourZero, awaitsIn, recordLegal, recordsLegal};
+ghost use Rattle.rules.proofs.InOrder.{TransportFirst};
+ghost use Rattle.saved_legal.specs.Legal.{usedRight, idlesIn, awaitsIn, recordLegal, recordsLegal};
 
 fn channel_right(state: State, channel: Channel) -> bool
     ensures { λ r. ⌜ r ≡ channelRight state channel ⌝ }
@@ -76,21 +79,6 @@ fn used_right(slot: &[u8]) -> bool
     slot[CONFIG_LENGTH] as usize <= CONFIG
 }
 
-fn four_zero(a: u8, b: u8, c: u8, d: u8) -> bool
-    ensures { λ r. ⌜ r ≡ fourZero a b c d ⌝ }
-{
-    if a != 0 {
-        return false;
-    }
-    if b != 0 {
-        return false;
-    }
-    if c != 0 {
-        return false;
-    }
-    d == 0
-}
-
 // Whether a stored record could have these octets.
 fn octets_right(slot: &[u8]) -> bool
     requires { ⌜ length (now slot) ≡ recordRoom ⌝ }
@@ -99,10 +87,7 @@ fn octets_right(slot: &[u8]) -> bool
     if !used_right(slot) {
         return false;
     }
-    if !four_zero(slot[UNUSED], slot[UNUSED + 1], slot[UNUSED + 2], slot[UNUSED + 3]) {
-        return false;
-    }
-    four_zero(slot[UNUSED + 4], slot[UNUSED + 5], slot[UNUSED + 6], slot[UNUSED + 7])
+    alone(slot, UNUSED, 0)
 }
 
 // How many channels a record awaits whose octet for the channel this is.
@@ -112,11 +97,22 @@ fn awaits(channel: u8) -> usize
     if channel == 1 { 1 } else { 0 }
 }
 
+// Whether a record's head is that of an idle endpoint, as most are.
+fn idles(seid: OurSeid, slot: &[u8]) -> bool
+    requires { ⌜ length (now slot) ≡ recordRoom ⌝ }
+    ensures { λ r. ⌜ r ≡ idlesIn seid (now (slot .entry)) ⌝ }
+{
+    alone(slot, SEID, seid.0) && alone(slot, UNUSED, 0)
+}
+
 // One record against its entry.
 fn record_legal(seid: OurSeid, kind: u8, caps: &[u8], slot: &[u8]) -> bool
-    requires { ⌜ (length (now caps) ≤ 64) × (length (now slot) ≡ recordRoom) ⌝ }
+    requires { ⌜ TransportFirst (now caps) × (length (now slot) ≡ recordRoom) ⌝ }
     ensures { λ r. ⌜ r ≡ recordLegal (record { seid = seid; kind = kind; caps = now (caps .entry) }) (now (slot .entry)) ⌝ }
 {
+    if idles(seid, slot) {
+        return true;
+    }
     if !octets_right(slot) {
         return false;
     }

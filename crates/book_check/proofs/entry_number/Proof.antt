@@ -1,10 +1,10 @@
 -- `entry_number` meets its contract: each return is the chain of tests of `entryNumber` as far as it was passed.
-use Prim.Native.Nat.{ℕ, _+_, _-_, _/_, _≤_, min}
+use Prim.Native.Nat.{ℕ, _+_, _-_, _/_, _≤_}
 use native.Mathlib.Omega.{arith}
 use mathlib.Core.Path.{_≡_, sym, ap, _∙_}
 use mathlib.Core.List.{List}
 use mathlib.Core.Bool.{Bool, true, false, not}
-use lib.ListN.{length, take, drop, getD, length-take}
+use lib.ListN.{length, take, drop, getD}
 use lib.Dec.{ltb}
 use borrow.Author.Needs.{needs}
 use borrow.Author.Tests.{lt-ltb, le-ltb, le-leb, lt-leb, eq-eqb, ne-eqb}
@@ -17,12 +17,6 @@ use Rattle.book_check.proofs.entry_number.Statement.{statement}
 use Rattle.book_check.proofs.entry_number.Tie as tie
 
 -- the list as it is lent to its check, and what that says
-part-short : (from size : ℕ) (b l : List ℕ) → l ≡ part from size b → size ≤ 64 → length l ≤ 65535
-unfolding part
-part-short from size b l e h =
-    let short : length l ≡ min size (length (drop from b)) = ap length e ∙ simp length-take in
-    omega arith
-
 list-told : (media from size : ℕ) (b l : List ℕ) (r t : Bool) → l ≡ part from size b → r ≡ listRight media (items l) → r ≡ t
     → listRight media (items (take size (drop from b))) ≡ t
 unfolding part
@@ -118,9 +112,7 @@ part-requires : tie.Need-part-requires
 part-requires c κs = search needs
 
 list-right-requires : tie.Need-list-right-requires
-list-right-requires c κs =
-    let args = c .before .before .before .before .before .before .before .before .before .before .before .before .args in
-    (part-short (args .at + 3) _ (args .book .now) _ (c .part .ensures) (omega arith), omega arith)
+list-right-requires c κs = omega arith
 
 -- the list was told right or wrong
 told-as : (c : tie.After-list-right) (t : Bool) → c .list-right .result ≡ t

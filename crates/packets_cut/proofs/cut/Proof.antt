@@ -70,11 +70,6 @@ part-within : (c : tie.After-least)
 part-within c =
     omega (arith, c .before .offset .ensures, c .least .ensures, from-within (numbered-at (index-of c)))
 
--- the header's octets are there to be lent
-header-within : (c : tie.After-header)
-  → 0 + c .before .before .before .before .header-size .result ≤ length (c .header .result)
-header-within c = omega (arith, head-small (c .before .before .before .before), c .header .ok)
-
 -- ---- The needs
 
 refused-requires : tie.Need-refused-requires
@@ -172,47 +167,35 @@ returns-7 c =
         (at-size .header-size .ensures) (at-offset .offset .ensures) (at-least .least .ensures)
         (c .before .if7 .taken))
 
-header-requires : tie.Need-header-requires
-header-requires c κs = omega (arith, total-small (index-of (c .before)))
-
-slice-aggregate-part : tie.Need-slice-aggregate-part
-slice-aggregate-part c = search needs
+put-header-requires : tie.Need-put-header-requires
+put-header-requires c κs =
+    let at-least = c .before .before in
+    omega (arith, total-small (index-of at-least), at-least .before .before .header-size .ensures, c .before .if7 .left)
 
 part-requires : tie.Need-part-requires
-part-requires c κs = header-within (c .before .before)
+part-requires c κs = part-within (c .before .before .before .before .before .before)
 
 put-requires : tie.Need-put-requires
 put-requires c κs =
-    let at-header = c .before .before .before in
-    let size = at-header .before .before .before .before .header-size .result in
-    omega (arith, at-header .before .if7 .left,
-      ap length (c .part .ensures) ∙ part-length 0 size (at-header .header .result) (header-within at-header))
-
-part-requires-2 : tie.Need-part-requires-2
-part-requires-2 c κs = part-within (c .before .before .before .before .before .before .before .before .before)
-
-put-requires-2 : tie.Need-put-requires-2
-put-requires-2 c κs =
-    let at-put = c .before .before .before .before in
-    let at-room = at-put .before .before .before .before .before in
+    let at-header = c .before .before .before .before in
+    let at-room = at-header .before .before in
     let at-least = at-room .before in
     let payload = start-of (index-of at-least) .args .payload .now in
-    omega (arith, at-room .if7 .left, at-put .put .kept .0,
-      ap length (c .part2 .ensures)
+    omega (arith, at-room .if7 .left, at-header .put-header .kept .0,
+      ap length (c .part .ensures)
       ∙ part-length (at-least .before .offset .result) (at-least .least .result) payload (part-within at-least))
 
-add-t15 : tie.Need-add-t15
-add-t15 c = search needs
+add-t14 : tie.Need-add-t14
+add-t14 c = search needs
 
 same-length : tie.Need-same-length
 same-length c = search needs
 
 returns-8 : tie.Need-returns-8
 returns-8 c =
-    let at-put2 = c .before .before in
-    let at-put = at-put2 .before .before .before .before .before in
-    let at-header = at-put .before .before .before .before in
-    let at-room = at-header .before in
+    let at-put = c .before .before in
+    let at-header = at-put .before .before .before .before .before in
+    let at-room = at-header .before .before in
     let at-least = at-room .before in
     let at-offset = at-least .before in
     let at-size = at-offset .before in
@@ -220,10 +203,9 @@ returns-8 c =
     writes (numbered-at (index-of at-least)) (room-at (at-size .before)) (s .args .area .now)
       (at-size .header-size .result) (at-offset .offset .result) (at-least .least .result)
       (at-size .header-size .ensures) (at-offset .offset .ensures) (at-least .least .ensures)
-      (at-header .header .result) (at-put .before .part .result .now) (at-put2 .before .part2 .result .now)
-      (at-put .put .last .0) (at-put2 .put2 .last .0)
-      (at-header .header .ensures (s .args .payload .now)) (at-put .before .part .ensures) (at-put2 .before .part2 .ensures)
-      (at-put .put .ensures) (at-put2 .put2 .ensures) (at-room .if7 .left)
+      (at-put .before .part .result .now) (at-header .put-header .last .0) (at-put .put .last .0)
+      (at-put .before .part .ensures) (at-header .put-header .ensures (s .args .payload .now)) (at-put .put .ensures)
+      (at-room .if7 .left)
 
 pub cut-spec : {M : Type 1} → statement M
 cut-spec =
@@ -250,12 +232,9 @@ cut-spec =
     add-if7
     refused-requires-7
     returns-7
-    header-requires
-    slice-aggregate-part
+    put-header-requires
     part-requires
     put-requires
-    part-requires-2
-    put-requires-2
-    add-t15
+    add-t14
     same-length
     returns-8)

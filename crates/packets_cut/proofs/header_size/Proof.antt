@@ -1,24 +1,7 @@
 -- `header_size` meets its contract: its tests are those of `headerOf`.
-use Prim.Native.Nat.{ℕ, zero, suc}
-use mathlib.Core.Path.{_≡_, refl}
-use borrow.Author.Tests.{eq-eqb, ne-eqb}
-use Rattle.rules.specs.Cutting.{avdtp}
-use Rattle.rules.proofs.Pieces.{headerOf}
+use Rattle.packets_cut.proofs.Cutter.{further-size, single-size, start-size}
 use Rattle.packets_cut.proofs.header_size.Statement.{statement}
 use Rattle.packets_cut.proofs.header_size.Tie as tie
-
-further-size : (total k : ℕ) → (k ≡ 0 → ⊥) → 1 ≡ headerOf avdtp total k
-unfolding headerOf
-further-size total zero h = absurd (h refl)
-further-size total (suc k) h = refl
-
-single-size : (total k : ℕ) → k ≡ 0 → total ≡ 1 → 2 ≡ headerOf avdtp total k
-unfolding headerOf
-single-size total k z e = rw (z, eq-eqb total 1 e)
-
-start-size : (total k : ℕ) → k ≡ 0 → (total ≡ 1 → ⊥) → 3 ≡ headerOf avdtp total k
-unfolding headerOf
-start-size total k z h = rw (z, ne-eqb total 1 h)
 
 returns : tie.Need-returns
 returns c = let args = c .before .args in further-size (args .total) (args .index) (c .if1 .taken)

@@ -1,8 +1,6 @@
--- `delay_right` meets its contract, by the delay and then by its tests.
+-- `delay_right` meets its contract, by the delay.
 use borrow.Author.Needs.{needs}
-use borrow.Author.Tests.{eq-eqb, ne-eqb}
-use Prim.Native.Nat.{_/_, _%_}
-use Rattle.rules.specs.Book.{isSource}
+use mathlib.Core.Path.{_∙_}
 use Rattle.rules.specs.Endpoints.{isReported}
 use Rattle.saved_keeps.proofs.delay_right.Statement.{statement}
 use Rattle.saved_keeps.proofs.delay_right.Tie as tie
@@ -13,21 +11,16 @@ enum-told c = search needs
 enum-told-2 : tie.Need-enum-told-2
 enum-told-2 c = search needs
 
+takes-delay-requires : tie.Need-takes-delay-requires
+takes-delay-requires c κs = search needs
+
 returns : tie.Need-returns
-unfolding isReported isSource
-returns c =
-    let args = c .before .before .before .args in
-    rw (c .before .enum-told2 .given .1, ne-eqb (args .kind / 8 % 2) 0 (c .if1 .taken))
+unfolding isReported
+returns c = rw (c .enum-told .given .1)
 
 returns-2 : tie.Need-returns-2
 unfolding isReported
-returns-2 c = rw (c .enum-told .given .1)
-
-returns-3 : tie.Need-returns-3
-unfolding isReported isSource
-returns-3 c =
-    let args = c .before .before .before .args in
-    rw (c .before .enum-told2 .given .1, eq-eqb (args .kind / 8 % 2) 0 (c .if1 .left))
+returns-2 c = c .takes-delay .ensures ∙ rw (c .before .enum-told2 .given .1)
 
 pub delay-right-spec : {M : Type 1} → statement M
-delay-right-spec = tie.close (tie.spec enum-told enum-told-2 returns returns-2 returns-3)
+delay-right-spec = tie.close (tie.spec enum-told enum-told-2 takes-delay-requires returns returns-2)

@@ -7,12 +7,13 @@ use lib.ListN.{length, getD}
 use borrow.Author.Tests.{not-true, not-false}
 use Rattle.rules.specs.Book.{bookOf}
 use Rattle.rules.specs.Saved.{recordRoom}
+use Rattle.rules.proofs.InOrder.{TransportFirst}
 use Rattle.octets.specs.Patch.{part}
 use Rattle.octets.proofs.Patches.{part-length}
 use Rattle.book.proofs.Entries.{RightEntry, RightEntries, first-entry, other-entries, right-head}
 use Rattle.book.proofs.Found.{all-counted}
 use Rattle.saved_legal.specs.Legal.{awaitsIn, recordLegal, recordsLegal}
-use Rattle.saved_legal.proofs.EachRecord.{part-short, awaits-few, legalFrom, entryAt, at-hand}
+use Rattle.saved_legal.proofs.EachRecord.{entry-first, awaits-few, legalFrom, entryAt, at-hand}
 use Rattle.saved_legal.proofs.EachRecord.{turn-ends, turn-goes-on, all-left, none-left}
 use Rattle.saved_legal.proofs.records.records_legal.Statement.{statement}
 use Rattle.saved_legal.proofs.records.records_legal.Tie as tie
@@ -96,9 +97,7 @@ record-legal-requires c κs =
     let in-loop = slot .before .before in
     let book = in-loop .before .before .before .before .before .args .book .now in
     let at = in-loop .before .loop .at in
-    ( subst (λ (x : List ℕ). length x ≤ 64) (sym (c .part2 .ensures))
-        (part-short (at + 3) (getD book (at + 2) 0) book (entry in-loop .short)),
-      slot-long slot)
+    (subst TransportFirst (sym (c .part2 .ensures)) (entry-first book at (entry in-loop)), slot-long slot)
 
 -- what the test of a record says
 judged : (c : tie.After-record-legal Inv-loop μ-loop)

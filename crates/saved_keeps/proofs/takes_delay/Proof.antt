@@ -10,8 +10,8 @@ use Rattle.rules.specs.Octets.{some-of}
 use Rattle.rules.specs.Elements.{Item, whole, short, items, categoryOf, valueWithin, offersIn, offered, isOf, has}
 use Rattle.rules.specs.Book.{isSource}
 use Rattle.rules.proofs.Tests.{and-true}
-use Rattle.commands_stream.proofs.delays.takes_delay.Statement.{statement}
-use Rattle.commands_stream.proofs.delays.takes_delay.Tie as tie
+use Rattle.saved_keeps.proofs.takes_delay.Statement.{statement}
+use Rattle.saved_keeps.proofs.takes_delay.Tie as tie
 
 offered-has : (is : List Item) (v : List ℕ) → offered is 8 v ≡ has 8 is
 unfolding offered has some-of offersIn isOf valueWithin categoryOf

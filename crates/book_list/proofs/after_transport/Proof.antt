@@ -1,0 +1,127 @@
+-- `after_transport` meets its contract: a codec or reporting decides with what is left behind it; any other element is judged as
+-- one behind content protection.
+use borrow.Author.Needs.{needs}
+use mathlib.Core.Path.{refl, sym, _∙_}
+use mathlib.Core.Bool.{true}
+use native.Mathlib.Omega.{arith}
+use borrow.Author.Tests.{ne-eqb}
+use Rattle.rules.specs.Octets.{member}
+use Rattle.rules.proofs.InOrder.{followers, offerTest}
+use Rattle.elements_reader.proofs.Stands.{stands-whole, value-length}
+use Rattle.elements_reader.proofs.OrderAt.{left-end, left-short, left-next, left-refused, left-on, left-alike}
+use Rattle.book_list.proofs.Walking.{reporting-passed, value-there, value-empty}
+use Rattle.book_list.proofs.after_transport.Statement.{statement}
+use Rattle.book_list.proofs.after_transport.Tie as tie
+
+element-at-requires : tie.Need-element-at-requires
+element-at-requires c κs = search needs
+
+enum-told : tie.Need-enum-told
+enum-told c = search needs
+
+enum-told-2 : tie.Need-enum-told-2
+enum-told-2 c = search needs
+
+enum-known-element : tie.Need-enum-known-element
+enum-known-element c = search needs
+
+codec-right-requires : tie.Need-codec-right-requires
+codec-right-requires c κs =
+    let place = c .before .before in
+    let looked = place .before .before in
+    let start = looked .before .before in
+    ( start .pre,
+      stands-whole (start .args .list .now) (start .args .at) _ _ _
+        (sym (place .element .given .1) ∙ looked .element-at .ensures) .3)
+
+-- the codec
+returns : tie.Need-returns
+unfolding followers member
+returns c =
+    let place = c .before .before .before in
+    let looked = place .before .before in
+    let args = looked .before .before .args in
+    c .codec-right .ensures
+    ∙ left-next true (offerTest (args .media)) 1 (args .list .now) (args .at) _ _ _
+        (sym (place .element .given .1) ∙ looked .element-at .ensures) 7 (c .before .if1 .taken) refl
+
+after-protection-requires : tie.Need-after-protection-requires
+after-protection-requires c κs = search needs
+
+-- neither codec nor reporting
+returns-2 : tie.Need-returns-2
+unfolding followers member
+returns-2 c =
+    let place = c .before .before .before .before in
+    let looked = place .before .before in
+    let args = looked .before .before .args in
+    c .after-protection .ensures
+    ∙ left-alike true (offerTest (args .media)) 4 1 (args .list .now) (args .at) _ _ _
+        (sym (place .element .given .1) ∙ looked .element-at .ensures) (rw (ne-eqb _ 2 (c .before .if2 .taken)))
+
+-- reporting with a value
+returns-3 : tie.Need-returns-3
+unfolding followers member
+returns-3 c =
+    let place = c .before .before .before .before in
+    let looked = place .before .before in
+    let args = looked .before .before .args in
+    let there = sym (place .element .given .1) ∙ looked .element-at .ensures in
+    left-refused true (offerTest (args .media)) 1 (args .list .now) (args .at) _ _ _ there 2 (c .before .if2 .left) refl
+      (value-there (args .media) _ _ (value-length (args .list .now) (args .at) _ _ _ there) 2 refl (c .if3 .taken))
+
+add-after-protection : tie.Need-add-after-protection
+add-after-protection c =
+    let place = c .before .before .before .before in
+    let looked = place .before .before in
+    let args = looked .before .before .args in
+    omega (arith, stands-whole (args .list .now) (args .at) _ _ _ (sym (place .element .given .1) ∙ looked .element-at .ensures) .3)
+
+after-protection-requires-2 : tie.Need-after-protection-requires-2
+after-protection-requires-2 c κs = search needs
+
+returns-4 : tie.Need-returns-4
+returns-4 c =
+    let looked = c .before .before in
+    let args = looked .before .before .args in
+    left-end true (offerTest (args .media)) 1 (args .list .now) (args .at)
+      (sym (c .enum-told .given .1) ∙ looked .element-at .ensures)
+
+returns-5 : tie.Need-returns-5
+returns-5 c =
+    let looked = c .before .before in
+    let args = looked .before .before .args in
+    left-short true (offerTest (args .media)) 1 (args .list .now) (args .at) _
+      (sym (c .enum-told2 .given .1) ∙ looked .element-at .ensures)
+
+-- reporting
+returns-6 : tie.Need-returns-6
+unfolding followers member
+returns-6 c =
+    let place = c .before .before .before .before .before in
+    let looked = place .before .before in
+    let args = looked .before .before .args in
+    let there = sym (place .element .given .1) ∙ looked .element-at .ensures in
+    c .after-protection2 .ensures
+    ∙ reporting-passed (offerTest (args .media)) _
+    ∙ left-on true (offerTest (args .media)) 1 (args .list .now) (args .at) _ _ _ there 2 (c .before .before .if2 .left) refl
+        (value-empty (args .media) _ _ (value-length (args .list .now) (args .at) _ _ _ there) 2 refl refl (c .before .if3 .left))
+
+pub after-transport-spec : {M : Type 1} → statement M
+after-transport-spec =
+    tie.close
+    (tie.spec
+    element-at-requires
+    enum-told
+    enum-told-2
+    enum-known-element
+    codec-right-requires
+    returns
+    after-protection-requires
+    returns-2
+    returns-3
+    add-after-protection
+    after-protection-requires-2
+    returns-4
+    returns-5
+    returns-6)

@@ -1,0 +1,150 @@
+-- `after_reporting` meets its contract: a codec or content protection decides with what is left behind it, and nothing else may
+-- follow.
+use borrow.Author.Needs.{needs}
+use mathlib.Core.Path.{refl, sym, _∙_}
+use mathlib.Core.Bool.{false}
+use native.Mathlib.Omega.{arith}
+use borrow.Author.Tests.{ne-eqb, not-true, not-false}
+use Rattle.rules.specs.Octets.{member}
+use Rattle.rules.specs.Elements.{items}
+use Rattle.rules.proofs.InOrder.{followers}
+use Rattle.rules.proofs.StoredInOrder.{settingTest}
+use Rattle.elements_reader.proofs.Stands.{stands-whole, value-length}
+use Rattle.elements_reader.proofs.OrderAt.{left-end, left-short, left-other, left-next, left-refused, left-on}
+use Rattle.elements_storable.proofs.Walking.{lent-told, not-offered, value-short, protection-right}
+use Rattle.elements_storable.proofs.after_reporting.Statement.{statement}
+use Rattle.elements_storable.proofs.after_reporting.Tie as tie
+
+element-at-requires : tie.Need-element-at-requires
+element-at-requires c κs = search needs
+
+enum-told : tie.Need-enum-told
+enum-told c = search needs
+
+enum-told-2 : tie.Need-enum-told-2
+enum-told-2 c = search needs
+
+enum-known-element : tie.Need-enum-known-element
+enum-known-element c = search needs
+
+codec-storable-requires : tie.Need-codec-storable-requires
+codec-storable-requires c κs =
+    let place = c .before .before in
+    let looked = place .before .before in
+    let args = looked .before .before .before .args in
+    let there = sym (place .element .given .1) ∙ looked .element-at .ensures in
+    (looked .before .before .before .pre, stands-whole (args .list .now) (args .at) _ _ _ there .3)
+
+-- the codec
+returns : tie.Need-returns
+unfolding followers member
+returns c =
+    let place = c .before .before .before in
+    let looked = place .before .before in
+    let args = looked .before .before .before .args in
+    let there = sym (place .element .given .1) ∙ looked .element-at .ensures in
+    c .codec-storable .ensures
+    ∙ left-next false (settingTest (items (args .caps .now))) 2 (args .list .now) (args .at) _ _ _ there 7 (c .before .if1 .taken) refl
+
+-- another category
+returns-2 : tie.Need-returns-2
+unfolding followers member
+returns-2 c =
+    let place = c .before .before .before in
+    let looked = place .before .before in
+    let args = looked .before .before .before .args in
+    let there = sym (place .element .given .1) ∙ looked .element-at .ensures in
+    left-other false (settingTest (items (args .caps .now))) 2 (args .list .now) (args .at) _ _ _ there
+      (rw (ne-eqb _ 4 (c .if2 .taken), ne-eqb _ 7 (c .before .if1 .left)))
+
+-- content protection that is too short
+returns-3 : tie.Need-returns-3
+unfolding followers member
+returns-3 c =
+    let place = c .before .before .before .before in
+    let looked = place .before .before in
+    let args = looked .before .before .before .args in
+    let there = sym (place .element .given .1) ∙ looked .element-at .ensures in
+    left-refused false (settingTest (items (args .caps .now))) 2 (args .list .now) (args .at) _ _ _ there 4 (c .before .if2 .left) refl
+      (value-short (items (args .caps .now)) _ _ (value-length (args .list .now) (args .at) _ _ _ there) 4 refl (c .if3 .taken))
+
+part-requires : tie.Need-part-requires
+part-requires c κs =
+    let place = c .before .before .before .before in
+    let looked = place .before .before in
+    let args = looked .before .before .before .args in
+    let there = sym (place .element .given .1) ∙ looked .element-at .ensures in
+    stands-whole (args .list .now) (args .at) _ _ _ there .3
+
+is-offered-requires : tie.Need-is-offered-requires
+is-offered-requires c κs = search needs
+
+-- content protection that is not offered
+returns-4 : tie.Need-returns-4
+unfolding followers member
+returns-4 c =
+    let place = c .before .before .before .before .before .before .before in
+    let looked = place .before .before in
+    let args = looked .before .before .before .args in
+    let there = sym (place .element .given .1) ∙ looked .element-at .ensures in
+    left-refused false (settingTest (items (args .caps .now))) 2 (args .list .now) (args .at) _ _ _ there 4 (c .before .before .before .before .if2 .left) refl
+      (not-offered (items (args .caps .now)) 4 _
+         (lent-told (items (args .caps .now)) 4 _ _ (args .list .now) (c .before .before .part .ensures) (c .before .is-offered .ensures) (not-true _ (c .if4 .taken))))
+
+add-after-protection : tie.Need-add-after-protection
+add-after-protection c =
+    let place = c .before .before .before .before .before .before .before in
+    let looked = place .before .before in
+    let args = looked .before .before .before .args in
+    let there = sym (place .element .given .1) ∙ looked .element-at .ensures in
+    omega (arith, stands-whole (args .list .now) (args .at) _ _ _ there .3)
+
+after-protection-requires : tie.Need-after-protection-requires
+after-protection-requires c κs = search needs
+
+returns-5 : tie.Need-returns-5
+returns-5 c =
+    let looked = c .before .before in
+    let args = looked .before .before .before .args in
+    left-end false (settingTest (items (args .caps .now))) 2 (args .list .now) (args .at) (sym (c .enum-told .given .1) ∙ looked .element-at .ensures)
+
+returns-6 : tie.Need-returns-6
+returns-6 c =
+    let looked = c .before .before in
+    let args = looked .before .before .before .args in
+    left-short false (settingTest (items (args .caps .now))) 2 (args .list .now) (args .at) _
+      (sym (c .enum-told2 .given .1) ∙ looked .element-at .ensures)
+
+-- content protection
+returns-7 : tie.Need-returns-7
+unfolding followers member
+returns-7 c =
+    let place = c .before .before .before .before .before .before .before .before in
+    let looked = place .before .before in
+    let args = looked .before .before .before .args in
+    let there = sym (place .element .given .1) ∙ looked .element-at .ensures in
+    c .after-protection .ensures
+    ∙ left-on false (settingTest (items (args .caps .now))) 2 (args .list .now) (args .at) _ _ _ there 4 (c .before .before .before .before .before .if2 .left) refl
+        (protection-right (items (args .caps .now)) _ _ (value-length (args .list .now) (args .at) _ _ _ there) (c .before .before .before .before .if3 .left)
+          (lent-told (items (args .caps .now)) 4 _ _ (args .list .now) (c .before .before .before .part .ensures) (c .before .before .is-offered .ensures) (not-false _ (c .before .if4 .left))))
+
+pub after-reporting-spec : {M : Type 1} → statement M
+after-reporting-spec =
+    tie.close
+    (tie.spec
+    element-at-requires
+    enum-told
+    enum-told-2
+    enum-known-element
+    codec-storable-requires
+    returns
+    returns-2
+    returns-3
+    part-requires
+    is-offered-requires
+    returns-4
+    add-after-protection
+    after-protection-requires
+    returns-5
+    returns-6
+    returns-7)
