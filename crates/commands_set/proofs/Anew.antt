@@ -7,12 +7,11 @@ use mathlib.Core.Bool.{true, false}
 use native.Mathlib.Nat.{le-trans}
 use native.Mathlib.Omega.{arith}
 use lib.ListN.{length, take, drop}
-use borrow.Author.Tests.{leb-true}
 use Rattle.rules.specs.Octets.{front}
 use Rattle.rules.specs.Elements.{items, faultIn, restored, couldStore}
 use Rattle.rules.specs.Endpoints.{Endpoint, isIdle, withConfig, endAt}
 use Rattle.rules.specs.Saved.{recordRoom, configRoom, headIn, recordAt}
-use Rattle.rules.specs.Commands.{accept, reject, moves, rejects, rejectsFault, lengthRight, may, reconfigureAt, obey}
+use Rattle.rules.specs.Commands.{accept, reject, moves, rejects, rejectsFault, may, reconfigureAt, obey}
 use Rattle.rules.specs.Host.{payloadOf}
 use Rattle.commands_reply.specs.Answers.{saidOf}
 use Rattle.commands_reply.specs.declared.Said.{Said}
@@ -39,7 +38,7 @@ use Rattle.commands_checks.specs.Named.{Named}
 use Rattle.commands_checks.proofs.Meeting.{entryIn, stands}
 use Rattle.commands_checks.proofs.Acting.{did-say}
 use Rattle.commands_set.specs.Kept.{Renews, keptOctets}
-use Rattle.commands_set.proofs.Doings.{answered, fault-answered, few, moved}
+use Rattle.commands_set.proofs.Doings.{answered, fault-answered, few, listed, moved}
 
 -- ---- What is written
 
@@ -106,10 +105,6 @@ module _ {caps records payload : List ℕ} {i : ℕ} {h : Head} {m : Marks} (r :
 -- ---- What is done at the endpoint
 
 module _ {book records p reply : List ℕ} {at : Place} (call : Named Reconfigure book records p reply at) where
-  pub three : 3 ≤ length p
-  unfolding lengthRight
-  three = leb-true 3 (length p) (stands call .long)
-
   -- what the check of the elements finds
   abbrev Finds : Walked → Type 0
   Finds w = checkOf Reconfiguring (items (take (at .size) (drop (at .from) book))) p 1 ≡ w
@@ -135,6 +130,7 @@ module _ {book records p reply : List ℕ} {at : Place} (call : Named Reconfigur
           could =
             subst (λ (l : List ℕ). couldStore (items offers) l ≡ true) config-here (keeps-config (entryIn book p at) it settings);
           few = few call;
+          first = listed call;
           clean = e
         })
 

@@ -8,7 +8,7 @@ use mathlib.Core.Bool.{not}
 use lib.ListN.{length, take, drop}
 use lib.Dec.{eqb}
 use Rattle.rules.specs.Octets.{if_then_else_}
-use Rattle.rules.specs.Book.{Entry, bookOf}
+use Rattle.rules.specs.Book.{Entry, mediaType, bookOf}
 use Rattle.rules.specs.Endpoints.{Endpoint, Ends}
 use Rattle.rules.specs.Saved.{recordRoom, headRoom, headOctets}
 use Rattle.rules.specs.Commands.{accept, Outcome, stays, moves, rejectsFault, named, obey}
@@ -19,6 +19,8 @@ use Rattle.rules.specs.declared.Fault.{Fault}
 use Rattle.rules.specs.declared.Signal.{Signal}
 use Rattle.rules.proofs.Tests.{Told?, told, passed, failed}
 use Rattle.rules.proofs.ShortReplies.{caps-short}
+use Rattle.rules.proofs.RightBook.{entry-listed}
+use Rattle.rules.proofs.InOrder.{TransportFirst, transport-first}
 use Rattle.octets.specs.Patch.{patch}
 use Rattle.octets.proofs.Patches.{patch-comm, patch-append}
 use Rattle.elements.specs.Walks.{walkedAs}
@@ -53,6 +55,12 @@ module _ {signal : Signal} {book records p reply : List ℕ} {at : Place} (call 
   -- the list of the endpoint that was met
   pub few : length (take (at .size) (drop (at .from) book)) ≤ 64
   few = caps-short (entryIn book p at) (stands call .placed .right)
+
+  -- it begins with the media transport
+  pub listed : TransportFirst (take (at .size) (drop (at .from) book))
+  listed =
+      transport-first (mediaType (at .kind)) (take (at .size) (drop (at .from) book))
+        (entry-listed (entryIn book p at) (stands call .placed .right))
 
   -- the endpoint is moved, and its record is written
   pub moved : (on : ℕ → Entry → Outcome)

@@ -8,7 +8,6 @@ use borrow.Author.Tests.{leb-true}
 use lib.ListN.{length, take, drop, getD}
 use Rattle.rules.specs.Octets.{front}
 use Rattle.rules.specs.Elements.{items, faultIn, stored, couldStore}
-use Rattle.rules.specs.Book.{mediaType}
 use Rattle.rules.specs.Endpoints.{Endpoint, farRight, settledBy, endAt}
 use Rattle.rules.specs.Saved.{recordRoom, headIn, recordAt}
 use Rattle.rules.specs.Commands.{accept, reject, moves, rejects, rejectsFault, lengthRight, farIn, settled, setAt, obey}
@@ -19,8 +18,6 @@ use Rattle.rules.specs.declared.Head.{Head}
 use Rattle.rules.specs.declared.Fault.{Fault}
 use Rattle.rules.specs.declared.Rule.the-variants.{Setting}
 use Rattle.rules.specs.declared.Signal.the-variants.{SetConfiguration}
-use Rattle.rules.proofs.RightBook.{entry-listed}
-use Rattle.rules.proofs.InOrder.{TransportFirst, transport-first}
 use Rattle.rules.proofs.Storable.{stored-could, could-short, could-clean, could-same}
 use Rattle.octets.specs.Patch.{patch}
 use Rattle.elements.specs.Marks.{noMarks, marksFrom}
@@ -56,12 +53,6 @@ module _ {book records p reply : List ℕ} {at : Place} (call : Named SetConfigu
   -- what the check of the elements finds
   abbrev Finds : Walked → Type 0
   Finds w = checkOf Setting (items (take (at .size) (drop (at .from) book))) p 2 ≡ w
-
-  -- the list of the endpoint that was met begins with the media transport
-  pub listed : TransportFirst (take (at .size) (drop (at .from) book))
-  listed =
-      transport-first (mediaType (at .kind)) (take (at .size) (drop (at .from) book))
-        (entry-listed (entryIn book p at) (stands call .placed .right))
 
   -- elements that could be stored as they stand
   abbrev Could : Type 0

@@ -8,6 +8,7 @@ use Rattle.rules.specs.Elements.{items, couldStore}
 use Rattle.rules.specs.Saved.{recordRoom, configRoom, headIn, headOctets, recordAt}
 use Rattle.rules.specs.declared.Head.{Head}
 use Rattle.rules.specs.declared.Rule.the-variants.{Reconfiguring}
+use Rattle.rules.proofs.InOrder.{TransportFirst}
 use Rattle.elements.specs.Walks.{checkOf}
 use Rattle.elements.specs.declared.marks.Marks.{Marks}
 use Rattle.elements.specs.declared.walks.Walked.the-variants.{Clean}
@@ -25,4 +26,5 @@ pub record Renews (caps records payload : List ℕ) (i : ℕ) (h : Head) (m : Ma
   pub told : configSizeAt i records ≤ configRoom
   pub could : couldStore (items caps) (configAt i records) ≡ true
   pub few : length caps ≤ 64
+  pub first : TransportFirst caps
   pub clean : checkOf Reconfiguring (items caps) payload 1 ≡ Clean m

@@ -3,9 +3,10 @@ use crate::keeps::keep;
 use book::places::Place;
 use elements::marks::Marks;
 use elements::walks::check;
+use elements::walks::RECONFIGURING;
+use elements::walks::SETTING;
 use elements::walks::Walked;
 use rules::Head;
-use rules::Rule;
 use commands_reply::Said;
 use saved::records::config;
 use saved::records::get;
@@ -37,7 +38,7 @@ fn renew(caps: &[u8], records: &mut [u8], payload: &[u8], index: usize, head: He
     let size = stored.len();
     octets::put(&mut copy, 0, stored);
     let old = &copy[..size];
-    let walked = check(Rule::Setting, caps, old, 0);
+    let walked = check(SETTING, caps, old, 0);
     match walked {
         // never: what is stored was checked
         Walked::Failed(_) => {}
@@ -51,7 +52,7 @@ pub fn reconfigure(book: &[u8], records: &mut [u8], payload: &[u8], reply: &mut 
       (now (reply .entry)) r (now (records .exit)) (now (reply .exit)) ⌝ }
 {
     let caps = octets::part(book, at.from, at.size);
-    let walked = check(Rule::Reconfiguring, caps, payload, 1);
+    let walked = check(RECONFIGURING, caps, payload, 1);
     match walked {
         Walked::Failed(fault) => commands_reply::rejected_element(reply, fault),
         Walked::Clean(marks) => {

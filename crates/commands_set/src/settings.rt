@@ -4,10 +4,10 @@ use crate::keeps::keep_whole;
 use book::places::Place;
 use elements::marks::none;
 use elements::walks::check;
+use elements::walks::SETTING;
 use elements::walks::Walked;
 use elements_storable::could_store;
 use rules::FarSeid;
-use rules::Rule;
 use commands_reply::Said;
 use saved_moves::settled;
 use saved::records::get;
@@ -29,7 +29,7 @@ fn set_picked(book: &[u8], records: &mut [u8], payload: &[u8], reply: &mut [u8],
     ensures { λ r. ⌜ Obeys (obey SetConfiguration) (now (book .entry)) (now (records .entry)) (now (payload .entry))
       (now (reply .entry)) r (now (records .exit)) (now (reply .exit)) ⌝ }
 {
-    let walked = check(Rule::Setting, octets::part(book, at.from, at.size), payload, 2);
+    let walked = check(SETTING, octets::part(book, at.from, at.size), payload, 2);
     match walked {
         Walked::Failed(fault) => commands_reply::rejected_element(reply, fault),
         Walked::Clean(marks) => {

@@ -18,26 +18,17 @@ use Rattle.elements_reader.specs.Standing.{elementOf, elementAt}
 use Rattle.elements_reader.specs.declared.Element.{Element}
 use Rattle.elements_reader.specs.declared.Element.the-variants.{End, Short, Whole}
 use Rattle.elements_reader.proofs.Stands.{behind}
-use Rattle.elements.specs.Marks.{noMarks, markOf, marked, isWhole, marksPast, marksFrom, seenAs, seenIn, LastMarked}
+use Rattle.elements.specs.Marks.{markOf, marked, isWhole, marksPast, marksFrom, seenAs, seenIn}
 use Rattle.elements.specs.declared.marks.Marks.{Marks}
-use Rattle.elements_offers.proofs.Categories.{NoneOf, numberOf, known-number, known-not-0}
+use Rattle.elements_offers.proofs.Categories.{NoneOf, numberOf, known-number}
 
 -- ---- An element passed
 
--- the marks with another category passed last
-abbrev withLast : ℕ → Marks → Marks
-withLast c m =
-    record {
-      last = c; transport = m .transport; reporting = m .reporting; recovery = m .recovery; protection = m .protection;
-      compression = m .compression; multiplexing = m .multiplexing; codec = m .codec; delaying = m .delaying
-    }
-
 -- one arm of the code's `match`
-pub pass-key : (c k first : ℕ) (m : Marks) → c ≡ k → withLast c (marked k first m) ≡ marked c first m
-unfolding marked
-pass-key c k first m e = ap (λ n. withLast c (marked n first m)) (sym e)
+pub pass-key : (c k first : ℕ) (m : Marks) → c ≡ k → marked k first m ≡ marked c first m
+pass-key c k first m e = ap (λ n. marked n first m) (sym e)
 
-pub pass-other : (c first : ℕ) (m : Marks) → NoneOf 8 c → withLast c m ≡ marked c first m
+pub pass-other : (c first : ℕ) (m : Marks) → NoneOf 8 c → m ≡ marked c first m
 unfolding marked
 pass-other c first m ((((((((_, h₁), h₂), h₃), h₄), h₅), h₆), h₇), h₈) =
     rw (ne-eqb c 1 h₁, ne-eqb c 2 h₂, ne-eqb c 3 h₃, ne-eqb c 4 h₄, ne-eqb c 5 h₅, ne-eqb c 6 h₆, ne-eqb c 7 h₇, ne-eqb c 8 h₈)
@@ -99,16 +90,14 @@ seen-last c k place = ap (member c) (sym (append-nil (seenAs k place))) ∙ seen
 
 seen-all : (c : ℕ) (m : Marks)
   → member c (seenIn m)
-    ≡ eqb c (m .last)
-      || (eqb c 1 && not (eqb (m .transport) 0) || (eqb c 2 && not (eqb (m .reporting) 0)
+    ≡ eqb c 1 && not (eqb (m .transport) 0) || (eqb c 2 && not (eqb (m .reporting) 0)
       || (eqb c 3 && not (eqb (m .recovery) 0) || (eqb c 4 && not (eqb (m .protection) 0)
       || (eqb c 5 && not (eqb (m .compression) 0) || (eqb c 6 && not (eqb (m .multiplexing) 0)
-      || (eqb c 7 && not (eqb (m .codec) 0) || (eqb c 8 && not (eqb (m .delaying) 0) || false))))))))
+      || (eqb c 7 && not (eqb (m .codec) 0) || (eqb c 8 && not (eqb (m .delaying) 0) || false)))))))
 unfolding seenIn member
 seen-all c m = simp (seen-one, seen-last)
 
-seen-by : (k : Category) (m : Marks) → isStrange k ≡ false
-  → member (numberOf k) (seenIn m) ≡ eqb (numberOf k) (m .last) || not (eqb (markOf k m) 0)
+seen-by : (k : Category) (m : Marks) → isStrange k ≡ false → member (numberOf k) (seenIn m) ≡ not (eqb (markOf k m) 0)
 unfolding numberOf markOf isStrange
 seen-by transport m e = simp (seen-all 1 m, or-false)
 seen-by reporting m e = simp (seen-all 2 m, or-false)
@@ -120,31 +109,10 @@ seen-by codec m e = simp (seen-all 7 m, or-false)
 seen-by delaying m e = simp (seen-all 8 m, or-false)
 seen-by strange m e = clash refl e
 
--- The marks of a walk show a category as seen where it has its mark.
-pub seen-marked : (c : ℕ) (m : Marks) → isStrange (categoryOf c) ≡ false → LastMarked m → member c (seenIn m) ≡ isMarked c m
+-- A category is seen where it has its mark.
+pub seen-marked : (c : ℕ) (m : Marks) → isStrange (categoryOf c) ≡ false → member c (seenIn m) ≡ isMarked c m
 unfolding isMarked
-seen-marked c m e right =
-    ap (λ n. member n (seenIn m)) (sym (known-number c e))
-    ∙ seen-by (categoryOf c) m e
-    ∙ ap (λ n. eqb n (m .last) || not (eqb (markOf (categoryOf c) m) 0)) (known-number c e)
-    ∙ go (told (eqb c (m .last)))
-  where
-    go : Told? (eqb c (m .last)) → eqb c (m .last) || isMarked c m ≡ isMarked c m
-    go (passed t) =
-        let same : c ≡ m .last = eqb-true c (m .last) t in
-        let there : markOf (categoryOf c) m ≡ 0 → ⊥ =
-              λ z. known-not-0 c e (same ∙ right (ap (λ n. markOf (categoryOf n) m) (sym same) ∙ z)) in
-        rw (t, ne-eqb (markOf (categoryOf c) m) 0 there)
-    go (failed t) = rw t
-
-pub none-last : LastMarked noMarks
-unfolding noMarks
-none-last z = refl
-
-pub passed-last : (c first : ℕ) (m : Marks) → isStrange (categoryOf c) ≡ false → (first ≡ 0 → ⊥) → LastMarked (marked c first m)
-unfolding marked
-passed-last c first m e f z =
-    absurd (f (sym (mark-passed c c first m e ∙ ap (λ t. if t then first else markOf (categoryOf c) m) (eq-eqb c c refl)) ∙ z))
+seen-marked c m e = ap (λ n. member n (seenIn m)) (sym (known-number c e)) ∙ seen-by (categoryOf c) m e
 
 -- ---- What a list has, its marks tell
 

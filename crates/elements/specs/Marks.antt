@@ -1,19 +1,18 @@
 -- Where the elements of a list stand: what a walk carries along, in the place of the categories seen.
 use Prim.Native.Nat.{ℕ, zero, suc, _+_}
-use mathlib.Core.Path.{_≡_}
 use mathlib.Core.List.{List, [], _∷_, _++_}
 use mathlib.Core.Bool.{Bool, false}
 use lib.ListN.{length, drop, getD}
 use lib.Dec.{leb, eqb}
 use Rattle.rules.specs.Octets.{if_then_else_}
-use Rattle.rules.specs.Elements.{Category, categoryOf, transport, reporting, recovery, protection, compression, multiplexing}
+use Rattle.rules.specs.Elements.{Category, transport, reporting, recovery, protection, compression, multiplexing}
 use Rattle.rules.specs.Elements.{codec, delaying, strange}
 use Rattle.elements.specs.declared.marks.Marks.{Marks}
 
 unfoldable pub noMarks : Marks
 noMarks =
     record {
-      last = 0; transport = 0; reporting = 0; recovery = 0; protection = 0; compression = 0; multiplexing = 0; codec = 0;
+      transport = 0; reporting = 0; recovery = 0; protection = 0; compression = 0; multiplexing = 0; codec = 0;
       delaying = 0
     }
 
@@ -33,7 +32,6 @@ markOf strange m = 0
 unfoldable pub marked : ℕ → ℕ → Marks → Marks
 marked c first m =
     record {
-      last = c;
       transport = if eqb c 1 then first else m .transport;
       reporting = if eqb c 2 then first else m .reporting;
       recovery = if eqb c 3 then first else m .recovery;
@@ -58,16 +56,11 @@ marksPast (x ∷ xs) zero at m =
 unfoldable pub marksFrom : List ℕ → ℕ → Marks → Marks
 marksFrom l at m = marksPast (drop at l) 0 at m
 
--- the categories passed, the nearest first
+-- the categories passed, ascending
 unfoldable pub seenAs : ℕ → ℕ → List ℕ
 seenAs c place = if eqb place 0 then [] else c ∷ []
 
 unfoldable pub seenIn : Marks → List ℕ
 seenIn m =
-    m .last
-    ∷ (seenAs 1 (m .transport) ++ (seenAs 2 (m .reporting) ++ (seenAs 3 (m .recovery) ++ (seenAs 4 (m .protection)
-      ++ (seenAs 5 (m .compression) ++ (seenAs 6 (m .multiplexing) ++ (seenAs 7 (m .codec) ++ seenAs 8 (m .delaying))))))))
-
--- The category passed last has its mark, so that what was seen is told by the marks alone.
-abbrev pub LastMarked : Marks → Type 0
-LastMarked m = markOf (categoryOf (m .last)) m ≡ 0 → m .last ≡ 0
+    seenAs 1 (m .transport) ++ (seenAs 2 (m .reporting) ++ (seenAs 3 (m .recovery) ++ (seenAs 4 (m .protection)
+      ++ (seenAs 5 (m .compression) ++ (seenAs 6 (m .multiplexing) ++ (seenAs 7 (m .codec) ++ seenAs 8 (m .delaying)))))))

@@ -1,12 +1,13 @@
--- What a walk over a list comes to; the code of an element that is cut short; and that a rule's media type is one of four bits.
-use Prim.Native.Nat.{ℕ, _≤_}
+-- What a walk over a list comes to, and the rules of the two commands.
+use Prim.Native.Nat.{ℕ}
 use mathlib.Core.List.{List}
+use mathlib.Core.Bool.{Bool, true, false}
 use lib.ListN.{drop}
 use lib.Dec.{eqb}
 use Rattle.rules.specs.Octets.{if_then_else_}
 use Rattle.rules.specs.Elements.{Item, items, faultPast, faultIn}
 use Rattle.rules.specs.declared.Rule.{Rule}
-use Rattle.rules.specs.declared.Rule.the-variants.{Offer, Setting, Reconfiguring}
+use Rattle.rules.specs.declared.Rule.the-variants.{Setting, Reconfiguring}
 use Rattle.rules.specs.declared.Fault.{Fault}
 use Rattle.elements.specs.Marks.{noMarks, marksFrom, seenIn}
 use Rattle.elements.specs.declared.marks.Marks.{Marks}
@@ -25,12 +26,7 @@ walkOf rule caps l at m = walkedAs (faultPast rule caps (seenIn m) (items (drop 
 unfoldable pub checkOf : Rule → List Item → List ℕ → ℕ → Walked
 checkOf rule caps l at = walkedAs (faultIn rule caps (items (drop at l))) (marksFrom l at noMarks)
 
-abbrev pub shortCodeOf : Rule → ℕ
-shortCodeOf (Offer media) = 7
-shortCodeOf Setting = 0x11
-shortCodeOf Reconfiguring = 0x11
-
-abbrev pub MediaFits : Rule → Type 0
-MediaFits (Offer media) = media ≤ 15
-MediaFits Setting = Unit {0}
-MediaFits Reconfiguring = Unit {0}
+-- the rule of a command: Reconfigure's where `anew`, and else Set Configuration's
+abbrev pub commandRule : Bool → Rule
+commandRule true = Reconfiguring
+commandRule false = Setting

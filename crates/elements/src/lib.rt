@@ -1,5 +1,4 @@
-// Lists of elements, of a book or of a command: where elements stand, the judges of an element by the rule of its list, and the
-// one walk.
+// The elements of a command: where they stand, the judge of one, and the walk over all.
 pub mod marks;
 pub mod judges;
 pub mod walks;

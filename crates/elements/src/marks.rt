@@ -3,9 +3,8 @@ ghost use mathlib.Core.Path.{_≡_};
 ghost use Rattle.rules.specs.Elements.{categoryOf};
 ghost use Rattle.elements.specs.Marks.{noMarks, markOf, marked};
 
-// Where in a list the value of the element of each category begins, 0 where there is none, and the category passed last.
+// Where in a list the value of the element of each category begins, 0 where there is none.
 pub struct Marks {
-    pub last: u8,
     pub transport: u16,
     pub reporting: u16,
     pub recovery: u16,
@@ -37,7 +36,6 @@ pub fn none() -> Marks
     ensures { λ r. ⌜ r ≡ noMarks ⌝ }
 {
     Marks {
-        last: 0,
         transport: 0,
         reporting: 0,
         recovery: 0,
@@ -54,7 +52,6 @@ pub fn passed(marks: Marks, category: u8, first: u16) -> Marks
     ensures { λ r. ⌜ r ≡ marked category first marks ⌝ }
 {
     let mut next = marks;
-    next.last = category;
     match category {
         1 => next.transport = first,
         2 => next.reporting = first,

@@ -5,6 +5,7 @@ use elements_reader::Element;
 ghost use mathlib.Core.Path.{_≡_};
 ghost use lib.ListN.{drop};
 ghost use Rattle.rules.specs.Elements.{items, categoryOf, lengthCode, codecWithin, valueWithin, offered};
+ghost use Rattle.rules.proofs.InOrder.{TransportFirst};
 
 // The code for a value of this length, 0 where it is right.
 pub fn length_code(category: u8, length: usize) -> u8
@@ -82,4 +83,16 @@ pub fn offers(caps: &[u8], at: usize, category: u8, value: &[u8]) -> bool
             offers(caps, first + length, category, value)
         }
     }
+}
+
+// Whether a right list offers the element. It begins with the media transport, which has no value: that one is offered, and any
+// other is looked for behind it.
+pub fn is_offered(caps: &[u8], category: u8, value: &[u8]) -> bool
+    requires { ⌜ TransportFirst (now caps) ⌝ }
+    ensures { λ r. ⌜ r ≡ offered (items (now (caps .entry))) category (now (value .entry)) ⌝ }
+{
+    if category == 1 {
+        return true;
+    }
+    offers(caps, 2, category, value)
 }

@@ -1,6 +1,6 @@
 // Whether octets are a configuration that Set Configuration could have stored: walked in the order in which configurations are
 // stored, with a function for what may follow each category. Nothing may follow itself, so none calls itself.
-use elements_offers::offers;
+use elements_offers::is_offered;
 use elements_reader::element_at;
 use elements_reader::Element;
 
@@ -8,17 +8,9 @@ ghost use mathlib.Core.Path.{_≡_};
 ghost use mathlib.Core.Bool.{false, _&&_};
 ghost use Prim.Native.Nat.{_+_, _≤_};
 ghost use lib.ListN.{length, take, drop};
-ghost use Rattle.rules.specs.Elements.{items, offered, couldStore};
+ghost use Rattle.rules.specs.Elements.{items, couldStore};
 ghost use Rattle.rules.proofs.InOrder.{TransportFirst, inOrder};
 ghost use Rattle.rules.proofs.StoredInOrder.{settingTest};
-
-// Whether an element that is not the media transport is offered. That one stands first in a right list, and is passed over.
-fn is_offered(caps: &[u8], category: u8, value: &[u8]) -> bool
-    requires { ⌜ TransportFirst (now caps) × (category ≡ 1 → ⊥) ⌝ }
-    ensures { λ r. ⌜ r ≡ offered (items (now (caps .entry))) category (now (value .entry)) ⌝ }
-{
-    offers(caps, 2, category, value)
-}
 
 // What is left behind the codec: delay reporting, or nothing.
 fn after_codec(caps: &[u8], list: &[u8], at: usize) -> bool

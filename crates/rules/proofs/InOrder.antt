@@ -1,19 +1,19 @@
 -- A list judged by what may follow: a right list of an entry, and a configuration that could be stored, have their elements in one
 -- order, so a walk needs only the category that it passed last. That a right list is such a list goes by induction on the items:
 -- a list that passes an element out of this order lacks 1 or 7 at its end.
-use Prim.Native.Nat.{ℕ, zero, suc, _≤_, _<_}
+use Prim.Native.Nat.{ℕ, zero, suc, _≤_}
 use native.Mathlib.Omega.{arith}
-use mathlib.Core.Path.{_≡_, refl, sym, ap, ap₂, subst, _∙_}
+use mathlib.Core.Path.{_≡_, refl, sym, subst, _∙_}
 use mathlib.Core.List.{List, [], _∷_}
 use mathlib.Core.Bool.{Bool, true, false, not, _&&_, _||_}
 use lib.ListN.{length, take, drop, getD}
 use lib.Seq.{length-take-le}
 use lib.Dec.{leb, ltb, eqb, eqb·suc-zero}
-use borrow.Author.Tests.{leb-true, leb-false, le-leb, lt-leb, ltb-true, ltb-false, eqb-true, eqb-false, eq-eqb, ne-eqb}
+use borrow.Author.Tests.{leb-true, leb-false, ltb-true, eqb-true, eqb-false, ne-eqb}
 use Rattle.rules.specs.Octets.{if_then_else_, member, some-of}
 use Rattle.rules.specs.Elements.{Item, whole, short, items, categoryOf, lengthCode, offerable, mayFollow, startRight}
-use Rattle.rules.specs.Elements.{offerCode, judge, blamed, itemCategory, missing, lacking, noFault, faultOr, faultPast, faultIn}
-use Rattle.rules.specs.Elements.{valueWithin, offersIn, offered}
+use Rattle.rules.specs.Elements.{offerCode, judge, blamed, itemCategory, missing, lacking, noFault, faultOr, faultPast}
+use Rattle.rules.specs.Elements.{faultIn, valueWithin, offersIn, offered}
 use Rattle.rules.specs.Book.{listRight}
 use Rattle.rules.specs.declared.Rule.the-variants.{Offer}
 use Rattle.rules.specs.declared.Fault.{Fault}

@@ -1,26 +1,26 @@
--- What Set Configuration could have stored is what is in order: stored elements are picked in that order, each fine; and of elements
--- in order the first fault is none and the pick of each category is the element itself. So a configuration is judged in one walk
--- and is not stored again.
+-- What Set Configuration could have stored is what is in order: stored elements are picked in that order, each fine; and elements
+-- in order have no fault, and of each category the element itself is picked. So a configuration is judged in one walk and is not
+-- stored again.
 use Prim.Native.Nat.{ℕ, zero, suc, _/_, _%_, _*_, _≤_, _<_}
 use native.Mathlib.Omega.{arith}
 use mathlib.Core.Path.{_≡_, refl, sym, ap, ap₂, subst, _∙_}
 use mathlib.Core.List.{List, [], _∷_, _++_}
 use mathlib.Core.Bool.{Bool, true, false, not, _&&_, _||_}
 use mathlib.Core.Option.{Option, none, some}
-use lib.ListN.{length, drop, getD}
+use lib.ListN.{length, getD}
 use lib.Dec.{leb, eqb}
 use borrow.Author.Tests.{leb-true, le-leb, eqb-true, eq-eqb, ne-eqb}
 use Rattle.rules.specs.Octets.{if_then_else_, sameOctets, member, each-of}
-use Rattle.rules.specs.Elements.{Item, whole, short, items, element, categoryOf, lengthCode, offered, isStrange, fixed, itemCode}
-use Rattle.rules.specs.Elements.{offerable, judge, blamed, itemCategory, missing, lacking, noFault, faultOr, faultPast, faultIn}
-use Rattle.rules.specs.Elements.{has, clearLow, kept, pick, picks, stored, couldStore}
+use Rattle.rules.specs.Elements.{Item, whole, short, items, element, categoryOf, lengthCode, offered, isStrange, fixed}
+use Rattle.rules.specs.Elements.{offerable, judge, blamed, itemCategory, missing, lacking, noFault, faultOr, faultPast}
+use Rattle.rules.specs.Elements.{faultIn, has, clearLow, kept, pick, picks, stored, couldStore}
 use Rattle.rules.specs.Book.{written}
 use Rattle.rules.specs.declared.Rule.the-variants.{Setting}
 use Rattle.rules.proofs.Tests.{Told?, passed, failed, told, clash, and-l, and-r, and-both, same-test, octets-same}
 use Rattle.rules.proofs.Lists.{items-none, isWhole, written-items}
 use Rattle.rules.proofs.InOrder.{followers, inOrder, steps}
-use Rattle.rules.proofs.Storable.{valueOf, keptOf, itemsOf, isThere, has-value, items-picks, Fine, fine-code, fine-kept, Sound}
-use Rattle.rules.proofs.Storable.{could-sound, could-same}
+use Rattle.rules.proofs.Storable.{valueOf, keptOf, itemsOf, isThere, has-value, items-picks, Fine, fine-code, fine-kept}
+use Rattle.rules.proofs.Storable.{Sound, could-sound, could-same}
 
 -- the reserved nibble of a codec is zero
 unfoldable pub reservedZero : ℕ → List ℕ → Bool

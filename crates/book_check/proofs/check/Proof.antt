@@ -93,7 +93,10 @@ shared-slice-read-if5 : tie.Need-shared-slice-read-if5
 shared-slice-read-if5 c = search needs
 
 returns-5 : tie.Need-returns-5
-returns-5 c = sym (named (c .before .before .before .before) ∙ simp (too-many _ (c .if5 .taken)))
+returns-5 c =
+    let named-there = c .before .before .before .before in
+    let start = named-there .before .before .before .before .before .before .before .before .before .before in
+    sym (named named-there ∙ simp (too-many (getD (start .args .book .now) 5 0) (omega arith)))
 
 entries-number-requires : tie.Need-entries-number-requires
 entries-number-requires c κs = search needs

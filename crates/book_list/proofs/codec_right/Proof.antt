@@ -13,7 +13,8 @@ returns : tie.Need-returns
 unfolding member
 returns c =
     let start = c .before .before in
-    rw (value-short (start .args .media) _ _ (part-length (start .args .list .now) _ _ (start .pre .1)) 7 refl (c .if1 .taken))
+    rw (value-short (start .args .media) _ (start .args .size) (part-length (start .args .list .now) _ _ (start .pre .1)) 7 refl
+          (omega arith))
 
 shared-slice-read-if2 : tie.Need-shared-slice-read-if2
 shared-slice-read-if2 c = omega (arith, c .before .before .before .pre .1)
@@ -24,9 +25,10 @@ mul-if2 c = search needs
 returns-2 : tie.Need-returns-2
 returns-2 c =
     let start = c .before .before .before .before in
-    let l = start .args .list .now in
-    rw (start-wrong (start .args .media) (take (start .args .size) (drop (start .args .first) l)) _
-          (part-length l _ _ (start .pre .1)) (λ e. c .if2 .taken (sym (part-first l (start .args .first) (start .args .size) (omega arith)) ∙ e)))
+    let args = start .args in
+    let l = args .list .now in
+    rw (start-wrong (args .media) (take (args .size) (drop (args .first) l)) _ (part-length l _ _ (start .pre .1))
+          (λ e. c .if2 .taken (sym (part-first l (args .first) (args .size) (omega arith)) ∙ e)))
 
 add-after-codec : tie.Need-add-after-codec
 add-after-codec c = omega arith
@@ -37,10 +39,11 @@ after-codec-requires c κs = search needs
 returns-3 : tie.Need-returns-3
 returns-3 c =
     let start = c .before .before .before .before .before in
-    let l = start .args .list .now in
+    let args = start .args in
+    let l = args .list .now in
     c .after-codec .ensures
-    ∙ rw (start-right (start .args .media) (take (start .args .size) (drop (start .args .first) l)) _
-            (part-length l _ _ (start .pre .1)) (omega arith) (part-first l (start .args .first) (start .args .size) (omega arith) ∙ c .before .if2 .left))
+    ∙ rw (start-right (args .media) (take (args .size) (drop (args .first) l)) _ (part-length l _ _ (start .pre .1))
+            (omega arith) (part-first l (args .first) (args .size) (omega arith) ∙ c .before .if2 .left))
 
 pub codec-right-spec : {M : Type 1} → statement M
 codec-right-spec =

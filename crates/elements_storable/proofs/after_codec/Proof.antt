@@ -33,8 +33,10 @@ returns c =
     let place = c .before .before in
     let looked = place .before .before in
     let args = looked .before .before .before .args in
+    let caps = items (args .caps .now) in
+    let l = args .list .now in
     let there = sym (place .element .given .1) ∙ looked .element-at .ensures in
-    left-other false (settingTest (items (args .caps .now))) 7 (args .list .now) (args .at) _ _ _ there (rw (ne-eqb _ 8 (c .if1 .taken)))
+    left-other false (settingTest caps) 7 l (args .at) _ _ _ there (rw (ne-eqb _ 8 (c .if1 .taken)))
 
 -- delay reporting with a value
 returns-2 : tie.Need-returns-2
@@ -43,17 +45,20 @@ returns-2 c =
     let place = c .before .before .before in
     let looked = place .before .before in
     let args = looked .before .before .before .args in
+    let caps = items (args .caps .now) in
+    let l = args .list .now in
     let there = sym (place .element .given .1) ∙ looked .element-at .ensures in
-    left-refused false (settingTest (items (args .caps .now))) 7 (args .list .now) (args .at) _ _ _ there 8 (c .before .if1 .left) refl
-      (value-there (items (args .caps .now)) _ _ (value-length (args .list .now) (args .at) _ _ _ there) 8 refl (c .if2 .taken))
+    left-refused false (settingTest caps) 7 l (args .at) _ _ _ there 8 (c .before .if1 .left) refl
+      (value-there caps _ _ (value-length l (args .at) _ _ _ there) 8 refl (c .if2 .taken))
 
 part-requires : tie.Need-part-requires
 part-requires c κs =
     let place = c .before .before .before in
     let looked = place .before .before in
     let args = looked .before .before .before .args in
+    let l = args .list .now in
     let there = sym (place .element .given .1) ∙ looked .element-at .ensures in
-    stands-whole (args .list .now) (args .at) _ _ _ there .3
+    stands-whole l (args .at) _ _ _ there .3
 
 is-offered-requires : tie.Need-is-offered-requires
 is-offered-requires c κs = search needs
@@ -65,30 +70,37 @@ returns-3 c =
     let place = c .before .before .before .before .before .before in
     let looked = place .before .before in
     let args = looked .before .before .before .args in
+    let caps = items (args .caps .now) in
+    let l = args .list .now in
     let there = sym (place .element .given .1) ∙ looked .element-at .ensures in
-    left-refused false (settingTest (items (args .caps .now))) 7 (args .list .now) (args .at) _ _ _ there 8 (c .before .before .before .before .if1 .left) refl
-      (not-offered (items (args .caps .now)) 8 _
-         (lent-told (items (args .caps .now)) 8 _ _ (args .list .now) (c .before .before .part .ensures) (c .before .is-offered .ensures) (not-true _ (c .if3 .taken))))
+    left-refused false (settingTest caps) 7 l (args .at) _ _ _ there 8
+        (c .before .before .before .before .if1 .left) refl
+      (not-offered caps 8 _
+         (lent-told caps 8 _ _ l (c .before .before .part .ensures) (c .before .is-offered .ensures) (not-true _ (c .if3 .taken))))
 
 add-result : tie.Need-add-result
 add-result c =
     let place = c .before .before .before .before .before .before in
     let looked = place .before .before in
     let args = looked .before .before .before .args in
+    let l = args .list .now in
     let there = sym (place .element .given .1) ∙ looked .element-at .ensures in
-    omega (arith, stands-whole (args .list .now) (args .at) _ _ _ there .3)
+    omega (arith, stands-whole l (args .at) _ _ _ there .3)
 
 returns-4 : tie.Need-returns-4
 returns-4 c =
     let looked = c .before .before in
     let args = looked .before .before .before .args in
-    left-end false (settingTest (items (args .caps .now))) 7 (args .list .now) (args .at) (sym (c .enum-told .given .1) ∙ looked .element-at .ensures)
+    let caps = items (args .caps .now) in
+    left-end false (settingTest caps) 7 (args .list .now) (args .at)
+      (sym (c .enum-told .given .1) ∙ looked .element-at .ensures)
 
 returns-5 : tie.Need-returns-5
 returns-5 c =
     let looked = c .before .before in
     let args = looked .before .before .before .args in
-    left-short false (settingTest (items (args .caps .now))) 7 (args .list .now) (args .at) _
+    let caps = items (args .caps .now) in
+    left-short false (settingTest caps) 7 (args .list .now) (args .at) _
       (sym (c .enum-told2 .given .1) ∙ looked .element-at .ensures)
 
 -- one that is offered: nothing may be left
@@ -98,11 +110,14 @@ returns-6 c =
     let place = c .before .before .before .before .before .before in
     let looked = place .before .before in
     let args = looked .before .before .before .args in
+    let caps = items (args .caps .now) in
+    let l = args .list .now in
     let there = sym (place .element .given .1) ∙ looked .element-at .ensures in
-    left-last false (settingTest (items (args .caps .now))) (args .list .now) _
-    ∙ left-on false (settingTest (items (args .caps .now))) 7 (args .list .now) (args .at) _ _ _ there 8 (c .before .before .before .before .if1 .left) refl
-        (value-empty (items (args .caps .now)) _ _ (value-length (args .list .now) (args .at) _ _ _ there) 8 refl refl (c .before .before .before .if2 .left)
-          (lent-told (items (args .caps .now)) 8 _ _ (args .list .now) (c .before .before .part .ensures) (c .before .is-offered .ensures) (not-false _ (c .if3 .left))))
+    left-last false (settingTest caps) l _
+    ∙ left-on false (settingTest caps) 7 l (args .at) _ _ _ there 8
+        (c .before .before .before .before .if1 .left) refl
+        (value-empty caps _ _ (value-length l (args .at) _ _ _ there) 8 refl refl (c .before .before .before .if2 .left)
+          (lent-told caps 8 _ _ l (c .before .before .part .ensures) (c .before .is-offered .ensures) (not-false _ (c .if3 .left))))
 
 pub after-codec-spec : {M : Type 1} → statement M
 after-codec-spec =

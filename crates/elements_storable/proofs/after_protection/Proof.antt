@@ -31,28 +31,34 @@ returns c =
     let place = c .before .before in
     let looked = place .before .before in
     let args = looked .before .before .before .args in
+    let caps = items (args .caps .now) in
+    let l = args .list .now in
     let there = sym (place .element .given .1) ∙ looked .element-at .ensures in
-    left-other false (settingTest (items (args .caps .now))) 4 (args .list .now) (args .at) _ _ _ there (rw (ne-eqb _ 7 (c .if1 .taken)))
+    left-other false (settingTest caps) 4 l (args .at) _ _ _ there (rw (ne-eqb _ 7 (c .if1 .taken)))
 
 codec-storable-requires : tie.Need-codec-storable-requires
 codec-storable-requires c κs =
     let place = c .before .before in
     let looked = place .before .before in
     let args = looked .before .before .before .args in
+    let l = args .list .now in
     let there = sym (place .element .given .1) ∙ looked .element-at .ensures in
-    (looked .before .before .before .pre, stands-whole (args .list .now) (args .at) _ _ _ there .3)
+    (looked .before .before .before .pre, stands-whole l (args .at) _ _ _ there .3)
 
 returns-2 : tie.Need-returns-2
 returns-2 c =
     let looked = c .before .before in
     let args = looked .before .before .before .args in
-    left-end false (settingTest (items (args .caps .now))) 4 (args .list .now) (args .at) (sym (c .enum-told .given .1) ∙ looked .element-at .ensures)
+    let caps = items (args .caps .now) in
+    left-end false (settingTest caps) 4 (args .list .now) (args .at)
+      (sym (c .enum-told .given .1) ∙ looked .element-at .ensures)
 
 returns-3 : tie.Need-returns-3
 returns-3 c =
     let looked = c .before .before in
     let args = looked .before .before .before .args in
-    left-short false (settingTest (items (args .caps .now))) 4 (args .list .now) (args .at) _
+    let caps = items (args .caps .now) in
+    left-short false (settingTest caps) 4 (args .list .now) (args .at) _
       (sym (c .enum-told2 .given .1) ∙ looked .element-at .ensures)
 
 -- the codec
@@ -62,9 +68,11 @@ returns-4 c =
     let place = c .before .before .before in
     let looked = place .before .before in
     let args = looked .before .before .before .args in
+    let caps = items (args .caps .now) in
+    let l = args .list .now in
     let there = sym (place .element .given .1) ∙ looked .element-at .ensures in
     c .codec-storable .ensures
-    ∙ left-next false (settingTest (items (args .caps .now))) 4 (args .list .now) (args .at) _ _ _ there 7 (c .before .if1 .left) refl
+    ∙ left-next false (settingTest caps) 4 l (args .at) _ _ _ there 7 (c .before .if1 .left) refl
 
 pub after-protection-spec : {M : Type 1} → statement M
 after-protection-spec =

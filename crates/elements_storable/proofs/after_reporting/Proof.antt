@@ -32,8 +32,9 @@ codec-storable-requires c κs =
     let place = c .before .before in
     let looked = place .before .before in
     let args = looked .before .before .before .args in
+    let l = args .list .now in
     let there = sym (place .element .given .1) ∙ looked .element-at .ensures in
-    (looked .before .before .before .pre, stands-whole (args .list .now) (args .at) _ _ _ there .3)
+    (looked .before .before .before .pre, stands-whole l (args .at) _ _ _ there .3)
 
 -- the codec
 returns : tie.Need-returns
@@ -42,9 +43,11 @@ returns c =
     let place = c .before .before .before in
     let looked = place .before .before in
     let args = looked .before .before .before .args in
+    let caps = items (args .caps .now) in
+    let l = args .list .now in
     let there = sym (place .element .given .1) ∙ looked .element-at .ensures in
     c .codec-storable .ensures
-    ∙ left-next false (settingTest (items (args .caps .now))) 2 (args .list .now) (args .at) _ _ _ there 7 (c .before .if1 .taken) refl
+    ∙ left-next false (settingTest caps) 2 l (args .at) _ _ _ there 7 (c .before .if1 .taken) refl
 
 -- another category
 returns-2 : tie.Need-returns-2
@@ -53,8 +56,10 @@ returns-2 c =
     let place = c .before .before .before in
     let looked = place .before .before in
     let args = looked .before .before .before .args in
+    let caps = items (args .caps .now) in
+    let l = args .list .now in
     let there = sym (place .element .given .1) ∙ looked .element-at .ensures in
-    left-other false (settingTest (items (args .caps .now))) 2 (args .list .now) (args .at) _ _ _ there
+    left-other false (settingTest caps) 2 l (args .at) _ _ _ there
       (rw (ne-eqb _ 4 (c .if2 .taken), ne-eqb _ 7 (c .before .if1 .left)))
 
 -- content protection that is too short
@@ -64,17 +69,20 @@ returns-3 c =
     let place = c .before .before .before .before in
     let looked = place .before .before in
     let args = looked .before .before .before .args in
+    let caps = items (args .caps .now) in
+    let l = args .list .now in
     let there = sym (place .element .given .1) ∙ looked .element-at .ensures in
-    left-refused false (settingTest (items (args .caps .now))) 2 (args .list .now) (args .at) _ _ _ there 4 (c .before .if2 .left) refl
-      (value-short (items (args .caps .now)) _ _ (value-length (args .list .now) (args .at) _ _ _ there) 4 refl (c .if3 .taken))
+    left-refused false (settingTest caps) 2 l (args .at) _ _ _ there 4 (c .before .if2 .left) refl
+      (value-short caps _ _ (value-length l (args .at) _ _ _ there) 4 refl (c .if3 .taken))
 
 part-requires : tie.Need-part-requires
 part-requires c κs =
     let place = c .before .before .before .before in
     let looked = place .before .before in
     let args = looked .before .before .before .args in
+    let l = args .list .now in
     let there = sym (place .element .given .1) ∙ looked .element-at .ensures in
-    stands-whole (args .list .now) (args .at) _ _ _ there .3
+    stands-whole l (args .at) _ _ _ there .3
 
 is-offered-requires : tie.Need-is-offered-requires
 is-offered-requires c κs = search needs
@@ -86,18 +94,22 @@ returns-4 c =
     let place = c .before .before .before .before .before .before .before in
     let looked = place .before .before in
     let args = looked .before .before .before .args in
+    let caps = items (args .caps .now) in
+    let l = args .list .now in
     let there = sym (place .element .given .1) ∙ looked .element-at .ensures in
-    left-refused false (settingTest (items (args .caps .now))) 2 (args .list .now) (args .at) _ _ _ there 4 (c .before .before .before .before .if2 .left) refl
-      (not-offered (items (args .caps .now)) 4 _
-         (lent-told (items (args .caps .now)) 4 _ _ (args .list .now) (c .before .before .part .ensures) (c .before .is-offered .ensures) (not-true _ (c .if4 .taken))))
+    left-refused false (settingTest caps) 2 l (args .at) _ _ _ there 4
+        (c .before .before .before .before .if2 .left) refl
+      (not-offered caps 4 _
+         (lent-told caps 4 _ _ l (c .before .before .part .ensures) (c .before .is-offered .ensures) (not-true _ (c .if4 .taken))))
 
 add-after-protection : tie.Need-add-after-protection
 add-after-protection c =
     let place = c .before .before .before .before .before .before .before in
     let looked = place .before .before in
     let args = looked .before .before .before .args in
+    let l = args .list .now in
     let there = sym (place .element .given .1) ∙ looked .element-at .ensures in
-    omega (arith, stands-whole (args .list .now) (args .at) _ _ _ there .3)
+    omega (arith, stands-whole l (args .at) _ _ _ there .3)
 
 after-protection-requires : tie.Need-after-protection-requires
 after-protection-requires c κs = search needs
@@ -106,13 +118,16 @@ returns-5 : tie.Need-returns-5
 returns-5 c =
     let looked = c .before .before in
     let args = looked .before .before .before .args in
-    left-end false (settingTest (items (args .caps .now))) 2 (args .list .now) (args .at) (sym (c .enum-told .given .1) ∙ looked .element-at .ensures)
+    let caps = items (args .caps .now) in
+    left-end false (settingTest caps) 2 (args .list .now) (args .at)
+      (sym (c .enum-told .given .1) ∙ looked .element-at .ensures)
 
 returns-6 : tie.Need-returns-6
 returns-6 c =
     let looked = c .before .before in
     let args = looked .before .before .before .args in
-    left-short false (settingTest (items (args .caps .now))) 2 (args .list .now) (args .at) _
+    let caps = items (args .caps .now) in
+    left-short false (settingTest caps) 2 (args .list .now) (args .at) _
       (sym (c .enum-told2 .given .1) ∙ looked .element-at .ensures)
 
 -- content protection
@@ -122,11 +137,15 @@ returns-7 c =
     let place = c .before .before .before .before .before .before .before .before in
     let looked = place .before .before in
     let args = looked .before .before .before .args in
+    let caps = items (args .caps .now) in
+    let l = args .list .now in
     let there = sym (place .element .given .1) ∙ looked .element-at .ensures in
     c .after-protection .ensures
-    ∙ left-on false (settingTest (items (args .caps .now))) 2 (args .list .now) (args .at) _ _ _ there 4 (c .before .before .before .before .before .if2 .left) refl
-        (protection-right (items (args .caps .now)) _ _ (value-length (args .list .now) (args .at) _ _ _ there) (c .before .before .before .before .if3 .left)
-          (lent-told (items (args .caps .now)) 4 _ _ (args .list .now) (c .before .before .before .part .ensures) (c .before .before .is-offered .ensures) (not-false _ (c .before .if4 .left))))
+    ∙ left-on false (settingTest caps) 2 l (args .at) _ _ _ there 4
+        (c .before .before .before .before .before .if2 .left) refl
+        (protection-right caps _ _ (value-length l (args .at) _ _ _ there) (c .before .before .before .before .if3 .left)
+          (lent-told caps 4 _ _ l (c .before .before .before .part .ensures) (c .before .before .is-offered .ensures)
+            (not-false _ (c .before .if4 .left))))
 
 pub after-reporting-spec : {M : Type 1} → statement M
 after-reporting-spec =

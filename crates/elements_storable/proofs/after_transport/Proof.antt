@@ -32,8 +32,9 @@ codec-storable-requires c κs =
     let place = c .before .before in
     let looked = place .before .before in
     let args = looked .before .before .before .args in
+    let l = args .list .now in
     let there = sym (place .element .given .1) ∙ looked .element-at .ensures in
-    (looked .before .before .before .pre, stands-whole (args .list .now) (args .at) _ _ _ there .3)
+    (looked .before .before .before .pre, stands-whole l (args .at) _ _ _ there .3)
 
 -- the codec
 returns : tie.Need-returns
@@ -42,9 +43,11 @@ returns c =
     let place = c .before .before .before in
     let looked = place .before .before in
     let args = looked .before .before .before .args in
+    let caps = items (args .caps .now) in
+    let l = args .list .now in
     let there = sym (place .element .given .1) ∙ looked .element-at .ensures in
     c .codec-storable .ensures
-    ∙ left-next false (settingTest (items (args .caps .now))) 1 (args .list .now) (args .at) _ _ _ there 7 (c .before .if1 .taken) refl
+    ∙ left-next false (settingTest caps) 1 l (args .at) _ _ _ there 7 (c .before .if1 .taken) refl
 
 after-reporting-requires : tie.Need-after-reporting-requires
 after-reporting-requires c κs = search needs
@@ -56,9 +59,11 @@ returns-2 c =
     let place = c .before .before .before .before in
     let looked = place .before .before in
     let args = looked .before .before .before .args in
+    let caps = items (args .caps .now) in
+    let l = args .list .now in
     let there = sym (place .element .given .1) ∙ looked .element-at .ensures in
     c .after-reporting .ensures
-    ∙ left-alike false (settingTest (items (args .caps .now))) 2 1 (args .list .now) (args .at) _ _ _ there (rw (ne-eqb _ 2 (c .before .if2 .taken)))
+    ∙ left-alike false (settingTest caps) 2 1 l (args .at) _ _ _ there (rw (ne-eqb _ 2 (c .before .if2 .taken)))
 
 -- reporting with a value
 returns-3 : tie.Need-returns-3
@@ -67,17 +72,20 @@ returns-3 c =
     let place = c .before .before .before .before in
     let looked = place .before .before in
     let args = looked .before .before .before .args in
+    let caps = items (args .caps .now) in
+    let l = args .list .now in
     let there = sym (place .element .given .1) ∙ looked .element-at .ensures in
-    left-refused false (settingTest (items (args .caps .now))) 1 (args .list .now) (args .at) _ _ _ there 2 (c .before .if2 .left) refl
-      (value-there (items (args .caps .now)) _ _ (value-length (args .list .now) (args .at) _ _ _ there) 2 refl (c .if3 .taken))
+    left-refused false (settingTest caps) 1 l (args .at) _ _ _ there 2 (c .before .if2 .left) refl
+      (value-there caps _ _ (value-length l (args .at) _ _ _ there) 2 refl (c .if3 .taken))
 
 part-requires : tie.Need-part-requires
 part-requires c κs =
     let place = c .before .before .before .before in
     let looked = place .before .before in
     let args = looked .before .before .before .args in
+    let l = args .list .now in
     let there = sym (place .element .given .1) ∙ looked .element-at .ensures in
-    stands-whole (args .list .now) (args .at) _ _ _ there .3
+    stands-whole l (args .at) _ _ _ there .3
 
 is-offered-requires : tie.Need-is-offered-requires
 is-offered-requires c κs = search needs
@@ -89,18 +97,22 @@ returns-4 c =
     let place = c .before .before .before .before .before .before .before in
     let looked = place .before .before in
     let args = looked .before .before .before .args in
+    let caps = items (args .caps .now) in
+    let l = args .list .now in
     let there = sym (place .element .given .1) ∙ looked .element-at .ensures in
-    left-refused false (settingTest (items (args .caps .now))) 1 (args .list .now) (args .at) _ _ _ there 2 (c .before .before .before .before .if2 .left) refl
-      (not-offered (items (args .caps .now)) 2 _
-         (lent-told (items (args .caps .now)) 2 _ _ (args .list .now) (c .before .before .part .ensures) (c .before .is-offered .ensures) (not-true _ (c .if4 .taken))))
+    left-refused false (settingTest caps) 1 l (args .at) _ _ _ there 2
+        (c .before .before .before .before .if2 .left) refl
+      (not-offered caps 2 _
+         (lent-told caps 2 _ _ l (c .before .before .part .ensures) (c .before .is-offered .ensures) (not-true _ (c .if4 .taken))))
 
 add-after-reporting : tie.Need-add-after-reporting
 add-after-reporting c =
     let place = c .before .before .before .before .before .before .before in
     let looked = place .before .before in
     let args = looked .before .before .before .args in
+    let l = args .list .now in
     let there = sym (place .element .given .1) ∙ looked .element-at .ensures in
-    omega (arith, stands-whole (args .list .now) (args .at) _ _ _ there .3)
+    omega (arith, stands-whole l (args .at) _ _ _ there .3)
 
 after-reporting-requires-2 : tie.Need-after-reporting-requires-2
 after-reporting-requires-2 c κs = search needs
@@ -109,13 +121,16 @@ returns-5 : tie.Need-returns-5
 returns-5 c =
     let looked = c .before .before in
     let args = looked .before .before .before .args in
-    left-end false (settingTest (items (args .caps .now))) 1 (args .list .now) (args .at) (sym (c .enum-told .given .1) ∙ looked .element-at .ensures)
+    let caps = items (args .caps .now) in
+    left-end false (settingTest caps) 1 (args .list .now) (args .at)
+      (sym (c .enum-told .given .1) ∙ looked .element-at .ensures)
 
 returns-6 : tie.Need-returns-6
 returns-6 c =
     let looked = c .before .before in
     let args = looked .before .before .before .args in
-    left-short false (settingTest (items (args .caps .now))) 1 (args .list .now) (args .at) _
+    let caps = items (args .caps .now) in
+    left-short false (settingTest caps) 1 (args .list .now) (args .at) _
       (sym (c .enum-told2 .given .1) ∙ looked .element-at .ensures)
 
 -- reporting
@@ -125,11 +140,15 @@ returns-7 c =
     let place = c .before .before .before .before .before .before .before .before in
     let looked = place .before .before in
     let args = looked .before .before .before .args in
+    let caps = items (args .caps .now) in
+    let l = args .list .now in
     let there = sym (place .element .given .1) ∙ looked .element-at .ensures in
     c .after-reporting2 .ensures
-    ∙ left-on false (settingTest (items (args .caps .now))) 1 (args .list .now) (args .at) _ _ _ there 2 (c .before .before .before .before .before .if2 .left) refl
-        (value-empty (items (args .caps .now)) _ _ (value-length (args .list .now) (args .at) _ _ _ there) 2 refl refl (c .before .before .before .before .if3 .left)
-          (lent-told (items (args .caps .now)) 2 _ _ (args .list .now) (c .before .before .before .part .ensures) (c .before .before .is-offered .ensures) (not-false _ (c .before .if4 .left))))
+    ∙ left-on false (settingTest caps) 1 l (args .at) _ _ _ there 2
+        (c .before .before .before .before .before .if2 .left) refl
+        (value-empty caps _ _ (value-length l (args .at) _ _ _ there) 2 refl refl (c .before .before .before .before .if3 .left)
+          (lent-told caps 2 _ _ l (c .before .before .before .part .ensures) (c .before .before .is-offered .ensures)
+            (not-false _ (c .before .if4 .left))))
 
 pub after-transport-spec : {M : Type 1} → statement M
 after-transport-spec =

@@ -1,7 +1,6 @@
 -- `codec_storable` meets its contract: the test of a codec is its length, its reserved nibble and its offer; then the rest decides.
 use borrow.Author.Needs.{needs}
-use Prim.Native.Nat.{_%_}
-use mathlib.Core.Path.{refl, sym, ap, _∙_}
+use mathlib.Core.Path.{refl, _∙_}
 use native.Mathlib.Omega.{arith}
 use lib.ListN.{take, drop}
 use borrow.Author.Tests.{not-true, not-false}
@@ -17,10 +16,11 @@ unfolding member
 returns c =
     let start = c .before .before .before in
     let args = start .args in
+    let caps = items (args .caps .now) in
     let l = args .list .now in
     let v = take (args .size) (drop (args .first) l) in
     let long = part-length l (args .first) (args .size) (start .pre .1) in
-    rw (value-short (items (args .caps .now)) v _ long 7 refl (c .if1 .taken))
+    rw (value-short caps v (args .size) long 7 refl (omega arith))
 
 shared-slice-read-if2 : tie.Need-shared-slice-read-if2
 shared-slice-read-if2 c = omega (arith, c .before .before .before .before .pre .1)
@@ -29,11 +29,11 @@ returns-2 : tie.Need-returns-2
 returns-2 c =
     let start = c .before .before .before .before .before in
     let args = start .args in
+    let caps = items (args .caps .now) in
     let l = args .list .now in
     let v = take (args .size) (drop (args .first) l) in
     let long = part-length l (args .first) (args .size) (start .pre .1) in
-    rw (nibble-there (items (args .caps .now)) v _ long
-          (λ e. c .if2 .taken (ap (λ o. o % 16) (sym (part-first l (args .first) (args .size) (omega arith))) ∙ e)))
+    rw (nibble-there caps v (args .size) long (λ e. omega (arith, part-first l (args .first) (args .size) (omega arith))))
 
 part-requires : tie.Need-part-requires
 part-requires c κs = search needs
@@ -45,10 +45,11 @@ returns-3 : tie.Need-returns-3
 returns-3 c =
     let start = c .before .before .before .before .before .before .before .before in
     let args = start .args in
+    let caps = items (args .caps .now) in
     let l = args .list .now in
     let v = take (args .size) (drop (args .first) l) in
-    let long = part-length l (args .first) (args .size) (start .pre .1) in
-    rw (not-offered (items (args .caps .now)) 7 v (lent-told (items (args .caps .now)) 7 _ _ (args .list .now) (c .before .before .part .ensures) (c .before .is-offered .ensures) (not-true _ (c .if3 .taken))))
+    rw (not-offered caps 7 v
+          (lent-told caps 7 _ _ l (c .before .before .part .ensures) (c .before .is-offered .ensures) (not-true _ (c .if3 .taken))))
 
 add-after-codec : tie.Need-add-after-codec
 add-after-codec c = omega arith
@@ -60,13 +61,15 @@ returns-4 : tie.Need-returns-4
 returns-4 c =
     let start = c .before .before .before .before .before .before .before .before .before in
     let args = start .args in
+    let caps = items (args .caps .now) in
     let l = args .list .now in
     let v = take (args .size) (drop (args .first) l) in
     let long = part-length l (args .first) (args .size) (start .pre .1) in
     c .after-codec .ensures
-    ∙ rw (codec-right (items (args .caps .now)) v _ long (omega arith)
-            (ap (λ o. o % 16) (part-first l (args .first) (args .size) (omega arith)) ∙ c .before .before .before .before .if2 .left)
-            (lent-told (items (args .caps .now)) 7 _ _ (args .list .now) (c .before .before .before .part .ensures) (c .before .before .is-offered .ensures) (not-false _ (c .before .if3 .left))))
+    ∙ rw (codec-right caps v (args .size) long (omega arith)
+            (omega (arith, part-first l (args .first) (args .size) (omega arith)))
+            (lent-told caps 7 _ _ l (c .before .before .before .part .ensures) (c .before .before .is-offered .ensures)
+              (not-false _ (c .before .if3 .left))))
 
 pub codec-storable-spec : {M : Type 1} → statement M
 codec-storable-spec =

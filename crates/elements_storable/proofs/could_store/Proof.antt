@@ -34,9 +34,11 @@ returns c =
     let place = c .before .before in
     let looked = place .before .before in
     let args = looked .before .before .before .args in
+    let caps = items (args .caps .now) in
+    let l = args .list .now in
     let there = sym (place .element .given .1) ∙ looked .element-at .ensures in
-    left-other false (settingTest (items (args .caps .now))) 0 (args .list .now) (args .at) _ _ _ there (rw (ne-eqb _ 1 (c .if1 .taken)))
-    ∙ sym (could-in-order (items (args .caps .now)) (drop (args .at) (args .list .now)))
+    left-other false (settingTest caps) 0 l (args .at) _ _ _ there (rw (ne-eqb _ 1 (c .if1 .taken)))
+    ∙ sym (could-in-order caps (drop (args .at) (args .list .now)))
 
 -- a media transport with a value
 returns-2 : tie.Need-returns-2
@@ -45,18 +47,21 @@ returns-2 c =
     let place = c .before .before .before in
     let looked = place .before .before in
     let args = looked .before .before .before .args in
+    let caps = items (args .caps .now) in
+    let l = args .list .now in
     let there = sym (place .element .given .1) ∙ looked .element-at .ensures in
-    left-refused false (settingTest (items (args .caps .now))) 0 (args .list .now) (args .at) _ _ _ there 1 (c .before .if1 .left) refl
-      (value-there (items (args .caps .now)) _ _ (value-length (args .list .now) (args .at) _ _ _ there) 1 refl (c .if2 .taken))
-    ∙ sym (could-in-order (items (args .caps .now)) (drop (args .at) (args .list .now)))
+    left-refused false (settingTest caps) 0 l (args .at) _ _ _ there 1 (c .before .if1 .left) refl
+      (value-there caps _ _ (value-length l (args .at) _ _ _ there) 1 refl (c .if2 .taken))
+    ∙ sym (could-in-order caps (drop (args .at) (args .list .now)))
 
 add-after-transport : tie.Need-add-after-transport
 add-after-transport c =
     let place = c .before .before .before in
     let looked = place .before .before in
     let args = looked .before .before .before .args in
+    let l = args .list .now in
     let there = sym (place .element .given .1) ∙ looked .element-at .ensures in
-    omega (arith, stands-whole (args .list .now) (args .at) _ _ _ there .3)
+    omega (arith, stands-whole l (args .at) _ _ _ there .3)
 
 after-transport-requires : tie.Need-after-transport-requires
 after-transport-requires c κs = search needs
@@ -65,16 +70,19 @@ returns-3 : tie.Need-returns-3
 returns-3 c =
     let looked = c .before .before in
     let args = looked .before .before .before .args in
-    left-end false (settingTest (items (args .caps .now))) 0 (args .list .now) (args .at) (sym (c .enum-told .given .1) ∙ looked .element-at .ensures)
-    ∙ sym (could-in-order (items (args .caps .now)) (drop (args .at) (args .list .now)))
+    let caps = items (args .caps .now) in
+    left-end false (settingTest caps) 0 (args .list .now) (args .at)
+      (sym (c .enum-told .given .1) ∙ looked .element-at .ensures)
+    ∙ sym (could-in-order caps (drop (args .at) (args .list .now)))
 
 returns-4 : tie.Need-returns-4
 returns-4 c =
     let looked = c .before .before in
     let args = looked .before .before .before .args in
-    left-short false (settingTest (items (args .caps .now))) 0 (args .list .now) (args .at) _
+    let caps = items (args .caps .now) in
+    left-short false (settingTest caps) 0 (args .list .now) (args .at) _
       (sym (c .enum-told2 .given .1) ∙ looked .element-at .ensures)
-    ∙ sym (could-in-order (items (args .caps .now)) (drop (args .at) (args .list .now)))
+    ∙ sym (could-in-order caps (drop (args .at) (args .list .now)))
 
 -- the media transport
 returns-5 : tie.Need-returns-5
@@ -83,12 +91,14 @@ returns-5 c =
     let place = c .before .before .before .before in
     let looked = place .before .before in
     let args = looked .before .before .before .args in
+    let caps = items (args .caps .now) in
+    let l = args .list .now in
     let there = sym (place .element .given .1) ∙ looked .element-at .ensures in
     c .after-transport .ensures
-    ∙ left-on false (settingTest (items (args .caps .now))) 0 (args .list .now) (args .at) _ _ _ there 1 (c .before .before .if1 .left) refl
-        (value-empty (items (args .caps .now)) _ _ (value-length (args .list .now) (args .at) _ _ _ there) 1 refl refl (c .before .if2 .left)
+    ∙ left-on false (settingTest caps) 0 l (args .at) _ _ _ there 1 (c .before .before .if1 .left) refl
+        (value-empty caps _ _ (value-length l (args .at) _ _ _ there) 1 refl refl (c .before .if2 .left)
           (transport-offered (args .caps .now) (looked .before .before .before .pre) _))
-    ∙ sym (could-in-order (items (args .caps .now)) (drop (args .at) (args .list .now)))
+    ∙ sym (could-in-order caps (drop (args .at) (args .list .now)))
 
 pub could-store-spec : {M : Type 1} → statement M
 could-store-spec =

@@ -3,18 +3,16 @@ use borrow.Author.Needs.{needs}
 use Prim.Native.Nat.{ℕ, _≤_}
 use native.Mathlib.Omega.{arith}
 use mathlib.Core.Path.{_≡_, ap, _∙_}
-use mathlib.Core.List.{List, [], _∷_, append-assoc}
-use lib.ListN.{length, take, drop, set, length-set}
-use lib.Seq.{sets-eq}
+use mathlib.Core.List.{List, [], _∷_}
+use lib.ListN.{length, set, length-set}
 use Rattle.octets.specs.Patch.{patch}
+use Rattle.octets.proofs.Patches.{patch-sets}
 use Rattle.packets_gather.specs.Parts.{withPart}
 use Rattle.packets_gather.proofs.add_part.Statement.{statement}
 use Rattle.packets_gather.proofs.add_part.Tie as tie
 
 stores : (room : List ℕ) (a b c : ℕ) → 8 ≤ length room → set (set (set room 5 a) 6 b) 7 c ≡ patch 5 (a ∷ b ∷ c ∷ []) room
-unfolding patch
-stores room a b c h =
-    sets-eq (a ∷ b ∷ c ∷ []) room 5 h ∙ append-assoc (take 5 room) (a ∷ b ∷ c ∷ []) (drop 8 room)
+stores room a b c h = patch-sets 5 (a ∷ b ∷ c ∷ []) room h
 
 add-length : tie.Need-add-length
 add-length c = search needs

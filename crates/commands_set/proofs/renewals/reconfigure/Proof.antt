@@ -1,6 +1,6 @@
 -- `reconfigure` meets its contract: by what the check of the elements finds, and what is said and written is a law of `Anew`.
 use Prim.Native.Nat.{ℕ}
-use mathlib.Core.Path.{_≡_, sym, ap, _∙_}
+use mathlib.Core.Path.{_≡_, sym, ap, subst, _∙_}
 use mathlib.Core.List.{List}
 use native.Mathlib.Nat.{le-trans}
 use lib.Dec.{lit≤}
@@ -8,10 +8,12 @@ use lib.ListN.{take, drop}
 use borrow.Author.Needs.{needs}
 use Rattle.rules.specs.Elements.{items}
 use Rattle.rules.specs.declared.Rule.the-variants.{Reconfiguring}
+use Rattle.rules.proofs.InOrder.{TransportFirst}
 use Rattle.octets.specs.Patch.{part}
 use Rattle.elements.specs.Walks.{checkOf}
 use Rattle.commands_checks.proofs.Meeting.{stands}
-use Rattle.commands_set.proofs.Anew.{three, renews, fault-refused, anew-moves}
+use Rattle.commands_set.proofs.Doings.{listed}
+use Rattle.commands_set.proofs.Anew.{renews, fault-refused, anew-moves}
 use Rattle.commands_set.proofs.renewals.reconfigure.Statement.{statement}
 use Rattle.commands_set.proofs.renewals.reconfigure.Tie as tie
 
@@ -34,8 +36,10 @@ part-requires : tie.Need-part-requires
 part-requires c κs = stands (c .before .before .before .before .pre) .placed .inside
 
 check-requires : tie.Need-check-requires
+unfolding part
 check-requires c κs =
-    let call = start-of c .pre in search (needs, three call, call .serves .short)
+    let call = start-of c .pre in
+    (subst TransportFirst (sym (c .part .ensures)) (listed call), le-trans (call .serves .short) (lit≤ tt))
 
 enum-known-walked : tie.Need-enum-known-walked
 enum-known-walked c = search needs

@@ -45,7 +45,9 @@ slice-aggregate-old : tie.Need-slice-aggregate-old
 slice-aggregate-old c = sym (length-take-le _ _ (copy-room (c .before)))
 
 check-requires : tie.Need-check-requires
-check-requires c κs = (old-short (start-of (c .before .before .before .before .before) .pre) (old-same c), tt)
+check-requires c κs =
+    let call = start-of (c .before .before .before .before .before) .pre in
+    (call .first, old-short call (old-same c))
 
 enum-told : tie.Need-enum-told
 enum-told c = search needs

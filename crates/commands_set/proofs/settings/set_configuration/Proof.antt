@@ -17,7 +17,8 @@ use Rattle.rules.specs.Commands.{farIn}
 use Rattle.rules.proofs.InOrder.{TransportFirst}
 use Rattle.octets.specs.Patch.{part}
 use Rattle.commands_checks.proofs.Meeting.{stands}
-use Rattle.commands_set.proofs.Sets.{two, listed, could-few, far-refused, whole-moves}
+use Rattle.commands_set.proofs.Doings.{listed}
+use Rattle.commands_set.proofs.Sets.{two, could-few, far-refused, whole-moves}
 use Rattle.commands_set.proofs.settings.set_configuration.Statement.{statement}
 use Rattle.commands_set.proofs.settings.set_configuration.Tie as tie
 

@@ -1,7 +1,7 @@
 -- `set_picked` meets its contract: each way out has passed the checks before it, and what it says and writes is a law of
 -- `Sets`.
 use Prim.Native.Nat.{ℕ}
-use mathlib.Core.Path.{_≡_, sym, ap, _∙_}
+use mathlib.Core.Path.{_≡_, sym, ap, subst, _∙_}
 use mathlib.Core.List.{List}
 use mathlib.Core.Bool.{true}
 use native.Mathlib.Nat.{le-trans}
@@ -12,10 +12,12 @@ use Rattle.rules.specs.Elements.{items}
 use Rattle.rules.specs.Endpoints.{farRight, settledBy}
 use Rattle.rules.specs.Commands.{farIn}
 use Rattle.rules.specs.declared.Rule.the-variants.{Setting}
+use Rattle.rules.proofs.InOrder.{TransportFirst}
 use Rattle.octets.specs.Patch.{part}
 use Rattle.elements.specs.Walks.{checkOf}
 use Rattle.commands_checks.proofs.Meeting.{stands}
-use Rattle.commands_set.proofs.Sets.{two, set-keeps, fault-refused, set-moves}
+use Rattle.commands_set.proofs.Doings.{listed}
+use Rattle.commands_set.proofs.Sets.{set-keeps, fault-refused, set-moves}
 use Rattle.commands_set.proofs.settings.set_picked.Statement.{statement}
 use Rattle.commands_set.proofs.settings.set_picked.Tie as tie
 
@@ -41,8 +43,10 @@ part-requires : tie.Need-part-requires
 part-requires c κs = stands (c .before .before .before .before .pre .0) .placed .inside
 
 check-requires : tie.Need-check-requires
+unfolding part
 check-requires c κs =
-    let call = start-of c .pre .0 in search (needs, two call, call .serves .short)
+    let call = start-of c .pre .0 in
+    (subst TransportFirst (sym (c .part .ensures)) (listed call), le-trans (call .serves .short) (lit≤ tt))
 
 enum-known-walked : tie.Need-enum-known-walked
 enum-known-walked c = search needs

@@ -9,7 +9,8 @@ use borrow.Author.Tests.{eq-eqb, ne-eqb}
 use Rattle.rules.specs.Octets.{member}
 use Rattle.rules.specs.Elements.{Item, whole, items, categoryOf, lengthCode, isStrange, fixed, offered, itemCode}
 use Rattle.rules.specs.declared.Rule.{Rule}
-use Rattle.elements.specs.Marks.{markOf, seenIn, LastMarked}
+use Rattle.elements.specs.Marks.{markOf, seenIn}
+use Rattle.elements.specs.Walks.{commandRule}
 use Rattle.elements.specs.declared.marks.Marks.{Marks}
 use Rattle.elements.proofs.Passing.{isMarked, seen-marked}
 use Rattle.elements.proofs.judges.item_code.Statement.{statement}
@@ -25,15 +26,15 @@ module _ (rule : Rule) (caps : List Item) (m : Marks) (c : ℕ) (v : List ℕ) w
     unfolding itemCode
     code-fixed e = rw (known, e)
 
-    module _ (free : fixed rule (categoryOf c) ≡ false) (right : LastMarked m) where
+    module _ (free : fixed rule (categoryOf c) ≡ false) where
       code-seen : (markOf (categoryOf c) m ≡ 0 → ⊥) → 0x18 ≡ itemCode rule caps (seenIn m) (whole c v)
       unfolding itemCode isMarked
-      code-seen f = rw (known, free, seen-marked c m known right, ne-eqb (markOf (categoryOf c) m) 0 f)
+      code-seen f = rw (known, free, seen-marked c m known, ne-eqb (markOf (categoryOf c) m) 0 f)
 
       module _ (new : markOf (categoryOf c) m ≡ 0) where
         is-new : member c (seenIn m) ≡ false
         unfolding isMarked
-        is-new = seen-marked c m known right ∙ ap not (eq-eqb (markOf (categoryOf c) m) 0 new)
+        is-new = seen-marked c m known ∙ ap not (eq-eqb (markOf (categoryOf c) m) 0 new)
 
         code-length : (n : ℕ) → n ≡ lengthCode (categoryOf c) (length v) → (n ≡ 0 → ⊥)
           → n ≡ itemCode rule caps (seenIn m) (whole c v)
@@ -56,7 +57,7 @@ past-strange c = sym (c .before .is-strange .ensures) ∙ c .if1 .left
 
 past-fixed : (c : tie.Else2)
   → let args = c .before .before .before .before .before .before .args in
-    fixed (args .rule) (categoryOf (args .category)) ≡ false
+    fixed (commandRule (args .anew)) (categoryOf (args .category)) ≡ false
 past-fixed c = sym (c .before .is-fixed .ensures) ∙ c .if2 .left
 
 past-seen : (c : tie.Else3)
@@ -70,7 +71,7 @@ is-strange-requires c κs = search needs
 returns : tie.Need-returns
 returns c =
     let args = c .before .before .before .before .args in
-    code-strange (args .rule) (items (args .caps .now)) (args .marks) (args .category) (args .value .now)
+    code-strange (commandRule (args .anew)) (items (args .caps .now)) (args .marks) (args .category) (args .value .now)
       (sym (c .before .is-strange .ensures) ∙ c .if1 .taken)
 
 is-fixed-requires : tie.Need-is-fixed-requires
@@ -79,7 +80,7 @@ is-fixed-requires c κs = past-strange c
 returns-2 : tie.Need-returns-2
 returns-2 c =
     let args = c .before .before .before .before .before .before .args in
-    code-fixed (args .rule) (items (args .caps .now)) (args .marks) (args .category) (args .value .now)
+    code-fixed (commandRule (args .anew)) (items (args .caps .now)) (args .marks) (args .category) (args .value .now)
       (past-strange (c .before .before)) (sym (c .before .is-fixed .ensures) ∙ c .if2 .taken)
 
 mark-requires : tie.Need-mark-requires
@@ -90,8 +91,8 @@ returns-3 c =
     let unfixed = c .before .before in
     let start = unfixed .before .before .before .before .before .before in
     let args = start .args in
-    code-seen (args .rule) (items (args .caps .now)) (args .marks) (args .category) (args .value .now)
-      (past-strange (unfixed .before .before)) (past-fixed unfixed) (start .pre)
+    code-seen (commandRule (args .anew)) (items (args .caps .now)) (args .marks) (args .category) (args .value .now)
+      (past-strange (unfixed .before .before)) (past-fixed unfixed)
       (λ e. c .if3 .taken (c .before .mark .ensures ∙ e))
 
 length-code-requires : tie.Need-length-code-requires
@@ -103,12 +104,12 @@ returns-4 c =
     let unfixed = unseen .before .before in
     let start = unfixed .before .before .before .before .before .before in
     let args = start .args in
-    code-length (args .rule) (items (args .caps .now)) (args .marks) (args .category) (args .value .now)
-      (past-strange (unfixed .before .before)) (past-fixed unfixed) (start .pre) (past-seen unseen)
+    code-length (commandRule (args .anew)) (items (args .caps .now)) (args .marks) (args .category) (args .value .now)
+      (past-strange (unfixed .before .before)) (past-fixed unfixed) (past-seen unseen)
       (c .before .length-code .result) (c .before .length-code .ensures) (c .if4 .taken)
 
-offers-requires : tie.Need-offers-requires
-offers-requires c κs = search needs
+is-offered-requires : tie.Need-is-offered-requires
+is-offered-requires c κs = search needs
 
 returns-5 : tie.Need-returns-5
 returns-5 c =
@@ -117,10 +118,10 @@ returns-5 c =
     let unfixed = unseen .before .before in
     let start = unfixed .before .before .before .before .before .before in
     let args = start .args in
-    code-offered (args .rule) (items (args .caps .now)) (args .marks) (args .category) (args .value .now)
-      (past-strange (unfixed .before .before)) (past-fixed unfixed) (start .pre) (past-seen unseen)
+    code-offered (commandRule (args .anew)) (items (args .caps .now)) (args .marks) (args .category) (args .value .now)
+      (past-strange (unfixed .before .before)) (past-fixed unfixed) (past-seen unseen)
       (long .before .length-code .result) (long .before .length-code .ensures) (long .if4 .left)
-      (sym (c .before .offers .ensures) ∙ c .if5 .taken)
+      (sym (c .before .is-offered .ensures) ∙ c .if5 .taken)
 
 returns-6 : tie.Need-returns-6
 returns-6 c =
@@ -129,10 +130,10 @@ returns-6 c =
     let unfixed = unseen .before .before in
     let start = unfixed .before .before .before .before .before .before in
     let args = start .args in
-    code-lacking (args .rule) (items (args .caps .now)) (args .marks) (args .category) (args .value .now)
-      (past-strange (unfixed .before .before)) (past-fixed unfixed) (start .pre) (past-seen unseen)
+    code-lacking (commandRule (args .anew)) (items (args .caps .now)) (args .marks) (args .category) (args .value .now)
+      (past-strange (unfixed .before .before)) (past-fixed unfixed) (past-seen unseen)
       (long .before .length-code .result) (long .before .length-code .ensures) (long .if4 .left)
-      (sym (c .before .offers .ensures) ∙ c .if5 .left)
+      (sym (c .before .is-offered .ensures) ∙ c .if5 .left)
 
 pub item-code-spec : {M : Type 1} → statement M
 item-code-spec =
@@ -146,6 +147,6 @@ item-code-spec =
     returns-3
     length-code-requires
     returns-4
-    offers-requires
+    is-offered-requires
     returns-5
     returns-6)

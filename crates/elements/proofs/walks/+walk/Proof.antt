@@ -1,25 +1,22 @@
 -- `walk` meets its contract: what stands at the place decides, or the walk goes on behind it with the marks of what was passed.
 -- The measure is what is left of the list.
 use Prim.Native.Nat.{ℕ, _-_, _<_}
-use mathlib.Core.Path.{sym, ap, subst, _∙_}
+use mathlib.Core.Path.{sym, ap, _∙_}
 use native.Mathlib.Omega.{arith}
 use lib.ListN.{length}
 use borrow.Fn.Kinds.{In}
 use borrow.Fn.PlainCycle.{Measures, is, falls, and}
 use Rattle.rules.specs.Elements.{items}
-use Rattle.elements.specs.declared.walks.Walked.the-variants.{Failed}
-use Rattle.elements.specs.Marks.{LastMarked}
-use Rattle.elements.specs.Walks.{walkOf}
+use Rattle.elements.specs.Walks.{walkOf, commandRule}
 use Rattle.elements_reader.proofs.Stands.{stands-whole}
-use Rattle.elements.proofs.Judging.{walk-end, walk-short, walk-fault, walk-last, walk-on}
+use Rattle.elements.proofs.Judging.{walk-end, walk-short, walk-fault, walk-on}
 use Rattle.elements.proofs.walks.walk.Reads as walk
 use Rattle.elements.proofs.walks.walk.Kinds as walk-kinds
 use Rattle.elements.proofs.walks.+walk.Lts-walk as walk-lts
 use Rattle.elements_reader.proofs.element_at.Reads as element-at-reads
 use Rattle.elements.proofs.marks.passed.Reads as passed-reads
 use Rattle.elements.proofs.walks.ended.Reads as ended-reads
-use Rattle.elements.proofs.judges.judged.Reads as judged-reads
-use Rattle.elements.proofs.judges.short_code.Reads as short-code-reads
+use Rattle.elements.proofs.judges.item_code.Reads as item-code-reads
 use Rattle.octets.proofs.part.Reads as part-reads
 use Rattle.elements.proofs.walks.+walk.{statement}
 use Rattle.elements.proofs.walks.+walk.Tie.{close}
@@ -39,12 +36,10 @@ pub +walk-spec : {M : Type 1} → statement M
   element-at-reads.Learnt,
   ended-reads.Asked,
   ended-reads.Learnt,
-  short-code-reads.Asked,
-  short-code-reads.Learnt,
   part-reads.Asked,
   part-reads.Learnt,
-  judged-reads.Asked,
-  judged-reads.Learnt,
+  item-code-reads.Asked,
+  item-code-reads.Learnt,
   passed-reads.Asked,
   passed-reads.Learnt,
   walk-below t,
@@ -57,27 +52,24 @@ pub +walk-spec : {M : Type 1} → statement M
     -- the first arm
     (λ c. c .match .keys1)
     -- what `ended` requires
-    (λ c κs. c .before .before .before .before .before .pre .1 .2)
+    (λ c κs. tt)
     -- nothing more
     (λ c.
       let place = c .before in
       let looked = place .before .before in
       let args = looked .before .before .before .args in
       c .ended .ensures
-      ∙ walk-end (args .rule) (items (args .caps .now)) (args .list .now) (args .at) (args .marks)
+      ∙ walk-end (commandRule (args .anew)) (items (args .caps .now)) (args .list .now) (args .at) (args .marks)
           (sym (place .enum-told .given .1) ∙ looked .element-at .ensures))
     -- the second arm
     (λ c. c .match .keys2)
-    -- what `short_code` requires
-    (λ c κs. tt)
     -- an element cut short
     (λ c.
-      let place = c .before .before in
+      let place = c .before in
       let looked = place .before .before in
       let args = looked .before .before .before .args in
-      ap (λ (n : ℕ). Failed (record { category = place .element .given .0 .0; code = n })) (c .short-code .ensures)
-      ∙ walk-short (args .rule) (items (args .caps .now)) (args .list .now) (args .at) (args .marks) _
-          (sym (place .element .given .1) ∙ looked .element-at .ensures))
+      walk-short (args .anew) (items (args .caps .now)) (args .list .now) (args .at) (args .marks) _
+        (sym (place .element .given .1) ∙ looked .element-at .ensures))
     -- the third arm
     (λ c. c .match .keys3)
     -- what `part` requires
@@ -86,19 +78,17 @@ pub +walk-spec : {M : Type 1} → statement M
       let looked = place .before .before in
       let args = looked .before .before .before .args in
       stands-whole (args .list .now) (args .at) _ _ _ (sym (place .element2 .given .1) ∙ looked .element-at .ensures) .3)
-    -- what `judged` requires
-    (λ c κs.
-      let start = c .before .before .before .before .before .before .before in
-      (start .pre .1 .1, start .pre .1 .2))
+    -- what `item_code` requires
+    (λ c κs. c .before .before .before .before .before .before .before .pre .1 .0)
     -- an element that fails
     (λ c.
       let judged = c .before in
       let place = judged .before .before .before in
       let looked = place .before .before in
       let args = looked .before .before .before .args in
-      walk-fault (args .rule) (items (args .caps .now)) (args .list .now) (args .at) (args .marks) _ _ _
+      walk-fault (args .anew) (items (args .caps .now)) (args .list .now) (args .at) (args .marks) _ _ _
         (sym (place .element2 .given .1) ∙ looked .element-at .ensures) _ (judged .before .part .ensures)
-        (judged .judged .result) (judged .judged .ensures) (c .if1 .taken))
+        (judged .item-code .result) (judged .item-code .ensures) (c .if1 .taken))
     -- the next place fits
     (λ c.
       let place = c .before .before .before .before in
@@ -112,32 +102,27 @@ pub +walk-spec : {M : Type 1} → statement M
       let looked = place .before .before in
       let start = looked .before .before .before in
       let args = start .args in
-      omega (arith, start .pre .1 .0,
+      omega (arith, start .pre .1 .1,
         stands-whole (args .list .now) (args .at) _ _ _ (sym (place .element2 .given .1) ∙ looked .element-at .ensures) .3))
     -- what `passed` requires
     (λ c κs. tt)
-    -- the measure falls, and the marks are those of a walk
+    -- the measure falls
     (λ c κs.
-      let judged = c .before .before in
-      let place = judged .before .before .before in
+      let place = c .before .before .before .before .before in
       let looked = place .before .before in
       let start = looked .before .before .before in
       let args = start .args in
-      let here = sym (place .element2 .given .1) ∙ looked .element-at .ensures in
-      let there = stands-whole (args .list .now) (args .at) _ _ _ here in
-      let last = walk-last (args .rule) (items (args .caps .now)) (args .list .now) (args .at) (args .marks) _ _ _ here _
-            (judged .before .part .ensures) (judged .judged .result) (judged .judged .ensures) (c .before .if1 .left) in
-      ( omega (arith, start .pre .0, there .2, there .3),
-        (start .pre .1 .0, start .pre .1 .1, subst LastMarked (sym (c .passed .ensures)) last)))
+      let there = stands-whole (args .list .now) (args .at) _ _ _
+          (sym (place .element2 .given .1) ∙ looked .element-at .ensures) in
+      (omega (arith, start .pre .0, there .2, there .3), start .pre .1))
     -- the rest decides
     (λ c.
       let judged = c .before .before .before in
       let place = judged .before .before .before in
       let looked = place .before .before in
-      let start = looked .before .before .before in
-      let args = start .args in
+      let args = looked .before .before .before .args in
       c .walk .ensures
-      ∙ ap (walkOf (args .rule) (items (args .caps .now)) (args .list .now) _) (c .before .passed .ensures)
-      ∙ walk-on (args .rule) (items (args .caps .now)) (args .list .now) (args .at) (args .marks) _ _ _
+      ∙ ap (walkOf (commandRule (args .anew)) (items (args .caps .now)) (args .list .now) _) (c .before .passed .ensures)
+      ∙ walk-on (args .anew) (items (args .caps .now)) (args .list .now) (args .at) (args .marks) _ _ _
           (sym (place .element2 .given .1) ∙ looked .element-at .ensures) _ (judged .before .part .ensures)
-          (judged .judged .result) (judged .judged .ensures) (c .before .before .if1 .left) (start .pre .1 .2))
+          (judged .item-code .result) (judged .item-code .ensures) (c .before .before .if1 .left))
