@@ -38,28 +38,29 @@ use Rattle.commands_checks.specs.Named.{Named}
 use Rattle.commands_checks.proofs.Meeting.{entryIn, stands}
 use Rattle.commands_checks.proofs.Acting.{did-say}
 use Rattle.commands_set.specs.Kept.{Renews, keptOctets}
-use Rattle.commands_set.proofs.Doings.{answered, fault-answered, few, listed, moved}
+use Rattle.commands_set.proofs.Doings.{answered, fault-answered, few, moved}
 
 -- ---- What is written
 
-module _ {caps records payload : List ℕ} {i : ℕ} {h : Head} {m : Marks} (r : Renews caps records payload i h m) where
+module _ {records payload : List ℕ} {i : ℕ} {h : Head} {m : Marks} (r : Renews records payload i h m) where
   abbrev anew : List ℕ
   anew = restored (items (drop 1 payload)) (items (configAt i records))
 
   config-short : length (configAt i records) ≤ 64
-  config-short = le-trans (could-short caps (configAt i records) (r .could)) (r .few)
+  config-short = le-trans (could-short (r .caps) (configAt i records) (r .could)) (r .few)
 
   -- what is asked where the configuration is read
   pub renew-reads : ((i + 1) * recordRoom ≤ length records) × (configSizeAt i records ≤ configRoom)
   renew-reads = (r .inside, r .told)
 
-  fine : faultIn Reconfiguring (items caps) (items (drop 1 payload)) .code ≡ 0
-  fine = check-clean Reconfiguring (items caps) payload 1 m (sym (r .clean)) .0
+  fine : faultIn Reconfiguring (items (r .caps)) (items (drop 1 payload)) .code ≡ 0
+  fine = check-clean Reconfiguring (items (r .caps)) payload 1 m (sym (r .clean)) .0
 
   pub anew-short : length anew ≤ 64
   anew-short =
       le-trans
-        (could-short caps anew (restored-could (items caps) (items (drop 1 payload)) (configAt i records) (r .could) fine))
+        (could-short (r .caps) anew
+          (restored-could (items (r .caps)) (items (drop 1 payload)) (configAt i records) (r .could) fine))
         (r .few)
 
   -- what is stored, copied
@@ -76,18 +77,16 @@ module _ {caps records payload : List ℕ} {i : ℕ} {h : Head} {m : Marks} (r :
     pub old-short : length old ≤ 65535
     old-short = omega (arith, ap length same, config-short)
 
-    -- what is stored has no fault
-    pub never : {A : Type 0} {f : Fault} → checkOf Setting (items caps) old 0 ≡ Failed f → A
-    never {A} {f} e =
-        let p : Clean (marksFrom (configAt i records) 0 noMarks) ≡ Failed f =
-              sym (could-checked (items caps) (configAt i records) (r .could))
-              ∙ ap (λ (l : List ℕ). checkOf Setting (items caps) l 0) (sym same) ∙ e in
-        let z : _≡_ {A = ℕ} 0 1 = cc in
-        absurd (omega arith)
+    module _ {k : Marks} (marks : k ≡ marksFrom old 0 noMarks) where
+      -- what is stored has no fault
+      found : checkOf Setting (items (r .caps)) old 0 ≡ Clean k
+      found =
+          ap (λ (l : List ℕ). checkOf Setting (items (r .caps)) l 0) same
+          ∙ could-checked (items (r .caps)) (configAt i records) (r .could)
+          ∙ ap Clean (ap (λ (l : List ℕ). marksFrom l 0 noMarks) (sym same) ∙ sym marks)
 
-    module _ {k : Marks} (e : checkOf Setting (items caps) old 0 ≡ Clean k) where
       stores : Stores payload m old k (restored (items (drop 1 payload)) (items old))
-      stores = again-stores (items caps) payload 1 old (r .clean) e
+      stores = again-stores (items (r .caps)) payload 1 old (r .clean) found
 
       store-same : markedStore payload m old k ≡ anew
       store-same = stores .same ∙ ap (λ (l : List ℕ). restored (items (drop 1 payload)) (items l)) same
@@ -116,23 +115,22 @@ module _ {book records p reply : List ℕ} {at : Place} (call : Named Reconfigur
   unfolding may
   busy = open-busy (endAt (endsOf book records) (at .index) .head .state) (stands call .takes)
 
-  pub renews : {caps : List ℕ} {h : Head} {m : Marks} → caps ≡ take (at .size) (drop (at .from) book)
-    → h ≡ headIn (recordAt (at .index) records) → Finds (Clean m) → Renews caps records p (at .index) h m
-  renews {h = h} {m = m} same loads e =
+  pub renews : {h : Head} {m : Marks} → h ≡ headIn (recordAt (at .index) records) → Finds (Clean m)
+    → Renews records p (at .index) h m
+  renews loads e =
       let it = endAt (endsOf book records) (at .index) in
       let offers = take (at .size) (drop (at .from) book) in
       let settings = busy-keeps (entryIn book p at) it (stands call .lawful) busy in
-      subst (λ (l : List ℕ). Renews l records p (at .index) h m) (sym same)
-        (record {
-          inside = stands call .inside;
-          head = loads;
-          told = stands call .told;
-          could =
-            subst (λ (l : List ℕ). couldStore (items offers) l ≡ true) config-here (keeps-config (entryIn book p at) it settings);
-          few = few call;
-          first = listed call;
-          clean = e
-        })
+      record {
+        caps = offers;
+        inside = stands call .inside;
+        head = loads;
+        told = stands call .told;
+        could =
+          subst (λ (l : List ℕ). couldStore (items offers) l ≡ true) config-here (keeps-config (entryIn book p at) it settings);
+        few = few call;
+        clean = e
+      }
 
   checked : {w : Walked} → Finds w
     → reconfigureAt (endsOf book records) p (at .index) (entryIn book p at)
@@ -165,4 +163,4 @@ module _ {book records p reply : List ℕ} {at : Place} (call : Named Reconfigur
         (restored (items (drop 1 p)) (items (configAt (at .index) records))) (checked e)
         (ap₂ (λ (l : List ℕ) (x : Head). record { head = x; config = restored (items (drop 1 p)) (items l) }) (sym config-here)
           (loads ∙ sym (ap (λ (x : Endpoint). x .head) (stands call .shows))))
-        (anew-short (renews refl loads e)) accepts wrote
+        (anew-short (renews loads e)) accepts wrote

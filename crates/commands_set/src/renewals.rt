@@ -1,10 +1,11 @@
 // 05 Reconfigure: the elements.
 use crate::keeps::keep;
 use book::places::Place;
+use elements::marks::none;
 use elements::marks::Marks;
 use elements::walks::check;
+use elements::walks::places;
 use elements::walks::RECONFIGURING;
-use elements::walks::SETTING;
 use elements::walks::Walked;
 use rules::Head;
 use commands_reply::Said;
@@ -26,8 +27,8 @@ ghost use Rattle.commands_set.specs.Kept.{Renews, keptOctets};
 
 // The elements are checked: they take the place of those of the stored configuration, or are added to them. What is stored is
 // copied first, as it is read while it is written anew.
-fn renew(caps: &[u8], records: &mut [u8], payload: &[u8], index: usize, head: Head, marks: Marks)
-    requires { ⌜ Renews (now caps) (now records) (now payload) index head marks ⌝ }
+fn renew(records: &mut [u8], payload: &[u8], index: usize, head: Head, marks: Marks)
+    requires { ⌜ Renews (now records) (now payload) index head marks ⌝ }
     ensures { λ _. ⌜ now (records .exit)
       ≡ patch (index * recordRoom)
           (keptOctets head (restored (items (drop 1 (now (payload .entry)))) (items (configAt index (now (records .entry))))))
@@ -38,12 +39,8 @@ fn renew(caps: &[u8], records: &mut [u8], payload: &[u8], index: usize, head: He
     let size = stored.len();
     octets::put(&mut copy, 0, stored);
     let old = &copy[..size];
-    let walked = check(SETTING, caps, old, 0);
-    match walked {
-        // never: what is stored was checked
-        Walked::Failed(_) => {}
-        Walked::Clean(left) => keep(records, index, head, payload, marks, old, left),
-    }
+    let left = places(old, 0, none());
+    keep(records, index, head, payload, marks, old, left);
 }
 
 pub fn reconfigure(book: &[u8], records: &mut [u8], payload: &[u8], reply: &mut [u8], at: Place) -> Said
@@ -51,13 +48,12 @@ pub fn reconfigure(book: &[u8], records: &mut [u8], payload: &[u8], reply: &mut 
     ensures { λ r. ⌜ Obeys (obey Reconfigure) (now (book .entry)) (now (records .entry)) (now (payload .entry))
       (now (reply .entry)) r (now (records .exit)) (now (reply .exit)) ⌝ }
 {
-    let caps = octets::part(book, at.from, at.size);
-    let walked = check(RECONFIGURING, caps, payload, 1);
+    let walked = check(RECONFIGURING, octets::part(book, at.from, at.size), payload, 1);
     match walked {
         Walked::Failed(fault) => commands_reply::rejected_element(reply, fault),
         Walked::Clean(marks) => {
             let h = get(records, at.index);
-            renew(caps, records, payload, at.index, h, marks);
+            renew(records, payload, at.index, h, marks);
             commands_reply::accepted()
         }
     }

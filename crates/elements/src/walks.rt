@@ -14,7 +14,7 @@ ghost use Prim.Native.Nat.{_≤_};
 ghost use lib.ListN.{length};
 ghost use Rattle.rules.specs.Elements.{items, lacking};
 ghost use Rattle.rules.proofs.InOrder.{TransportFirst};
-ghost use Rattle.elements.specs.Marks.{seenIn};
+ghost use Rattle.elements.specs.Marks.{seenIn, marksFrom};
 ghost use Rattle.elements.specs.Walks.{commandRule, walkedAs, walkOf, checkOf};
 
 // The two commands that have elements.
@@ -75,4 +75,21 @@ pub fn check(anew: bool, caps: &[u8], list: &[u8], at: usize) -> Walked
     ensures { λ r. ⌜ r ≡ checkOf (commandRule anew) (items (now (caps .entry))) (now (list .entry)) at ⌝ }
 {
     walk(anew, caps, list, at, none())
+}
+
+// Where the elements of a list stand that needs no check: from `at` on, after the elements that have these marks.
+pub fn places(list: &[u8], at: usize, marks: Marks) -> Marks
+    requires { ⌜ length (now list) ≤ 65535 ⌝ }
+    ensures { λ r. ⌜ r ≡ marksFrom (now (list .entry)) at marks ⌝ }
+{
+    let element = element_at(list, at);
+    match element {
+        Element::End => marks,
+        Element::Short { category: _ } => marks,
+        Element::Whole {
+            category,
+            length,
+            first,
+        } => places(list, first + length, passed(marks, category, first as u16)),
+    }
 }

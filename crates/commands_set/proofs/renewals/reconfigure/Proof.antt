@@ -60,7 +60,7 @@ renew-requires c κs =
     let got = c .before in
     let clean = got .before .before .before in
     let checked = clean .before .before in
-    renews (start-of (checked .before) .pre) (checked .before .part .ensures) (got .get .ensures)
+    renews (start-of (checked .before) .pre) (got .get .ensures)
       (sym (found checked) ∙ clean .walked2 .given .1)
 
 accepted-requires : tie.Need-accepted-requires

@@ -1,12 +1,13 @@
--- `renew` meets its contract: the stored configuration is copied, passes its check, and with the new elements is written anew.
+-- `renew` meets its contract: the stored configuration is copied, and with the new elements is written anew.
 use Prim.Native.Nat.{_≤_}
-use mathlib.Core.Path.{_≡_, refl, sym, _∙_}
+use mathlib.Core.Path.{_≡_, refl, sym, ap, _∙_}
 use native.Mathlib.Omega.{arith}
 use lib.ListN.{length, take}
 use lib.Seq.{length-take-le}
 use borrow.Author.Needs.{needs}
+use Rattle.elements.specs.Marks.{noMarks, marksFrom}
 use Rattle.saved.specs.Records.{configAt}
-use Rattle.commands_set.proofs.Anew.{renew-reads, copy-fits, copied, old-short, never, renew-keeps, renew-writes}
+use Rattle.commands_set.proofs.Anew.{renew-reads, copy-fits, copied, old-short, renew-keeps, renew-writes}
 use Rattle.commands_set.proofs.renewals.renew.Statement.{statement}
 use Rattle.commands_set.proofs.renewals.renew.Tie as tie
 
@@ -14,7 +15,7 @@ slice-aggregate-put : tie.Need-slice-aggregate-put
 slice-aggregate-put c = search needs
 
 abbrev start-of : tie.After-config-arg → tie.Start
-start-of c = c .before .before .before .before
+start-of c = c .before .before .before
 
 config-requires : tie.Need-config-requires
 config-requires c κs = renew-reads (start-of c .pre)
@@ -44,43 +45,36 @@ array-share-prefix-copy c = copy-room c
 slice-aggregate-old : tie.Need-slice-aggregate-old
 slice-aggregate-old c = sym (length-take-le _ _ (copy-room (c .before)))
 
-check-requires : tie.Need-check-requires
-check-requires c κs =
-    let call = start-of (c .before .before .before .before .before) .pre in
-    (call .first, old-short call (old-same c))
+none-requires : tie.Need-none-requires
+none-requires c κs = search needs
 
-enum-told : tie.Need-enum-told
-enum-told c = search needs
+places-requires : tie.Need-places-requires
+places-requires c κs =
+    old-short (start-of (c .before .before .before .before .before .before) .pre) (old-same (c .before))
 
-enum-known-walked : tie.Need-enum-known-walked
-enum-known-walked c = search needs
+-- the marks of what is stored
+marks : (c : tie.After-places)
+  → let copy = c .before .before in
+    let put = copy .before .before in
+    c .places .result ≡ marksFrom (take (length (put .before .before .config .result .now)) (put .put .last .0)) 0 noMarks
+marks c = c .places .ensures ∙ ap (marksFrom _ 0) (c .before .none .ensures)
 
 keep-requires : tie.Need-keep-requires
 keep-requires c κs =
-    let clean = c .before .before in
-    let checked = clean .before .before in
-    renew-keeps (start-of (checked .before .before .before .before .before .before) .pre) (old-same (checked .before))
-      (sym (checked .check .ensures) ∙ clean .walked .given .1)
+    let placed = c .before in
+    let copy = placed .before .before in
+    renew-keeps (start-of (copy .before .before .before .before .before) .pre) (old-same copy) (marks placed)
 
 same-length : tie.Need-same-length
 same-length c = search needs
 
 returns : tie.Need-returns
 returns c =
-    let checked = c .before .before in
-    never (start-of (checked .before .before .before .before .before .before) .pre) (old-same (checked .before))
-      (sym (checked .check .ensures) ∙ c .enum-told .given .1)
-
-same-length-2 : tie.Need-same-length-2
-same-length-2 c = search needs
-
-returns-2 : tie.Need-returns-2
-returns-2 c =
     let kept = c .before .before in
-    let clean = kept .before .before .before in
-    let checked = clean .before .before in
-    renew-writes (start-of (checked .before .before .before .before .before .before) .pre) (old-same (checked .before))
-      (sym (checked .check .ensures) ∙ clean .walked .given .1) (kept .keep .ensures)
+    let placed = kept .before .before in
+    let copy = placed .before .before in
+    renew-writes (start-of (copy .before .before .before .before .before) .pre) (old-same copy) (marks placed)
+      (kept .keep .ensures)
 
 pub renew-spec : {M : Type 1} → statement M
 renew-spec =
@@ -91,11 +85,8 @@ renew-spec =
     put-requires
     array-share-prefix-copy
     slice-aggregate-old
-    check-requires
-    enum-told
-    enum-known-walked
+    none-requires
+    places-requires
     keep-requires
     same-length
-    returns
-    same-length-2
-    returns-2)
+    returns)
