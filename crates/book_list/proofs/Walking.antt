@@ -1,4 +1,4 @@
--- The test of an element of an entry's list, as the walk makes it: by the length of the value and, of a codec, by its first octet.
+-- The test of an element of an entry's list, as the walk makes it: by the length of the value and, for a codec, its first octet.
 use Prim.Native.Nat.{ℕ, _*_, _≤_, _<_}
 use mathlib.Core.Path.{_≡_, refl}
 use mathlib.Core.List.{List, [], _∷_}

@@ -1,5 +1,5 @@
-// The list of an entry, walked by recursion on the octets left. What may follow an element hangs on its category alone, so there is
-// a function for each; only content protection may follow itself, and so only its function calls itself.
+// The list of an entry, walked by recursion on the octets left. What may follow an element hangs on its category alone, so there
+// is a function for each; only content protection may follow itself, and so only its function calls itself.
 use elements_reader::element_at;
 use elements_reader::Element;
 

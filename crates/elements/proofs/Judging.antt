@@ -1,5 +1,5 @@
--- The checks look at the categories seen only for whether a known one is among them, so marks serve in the place of the categories,
--- by induction on the items; and with them the walk is told by what stands at a place.
+-- The checks look at the categories seen only for whether a known one is among them, so marks serve in their place, by induction
+-- on the items; and with them the walk is told by what stands at a place.
 use Prim.Native.Nat.{ℕ, _+_}
 use mathlib.Core.Path.{_≡_, refl, sym, ap, ap₂, _∙_}
 use mathlib.Core.List.{List, [], _∷_}

@@ -1,5 +1,5 @@
--- The order at a place of a list: what stands there decides, or the rest does, behind it. Each goes by the items from the place on,
--- which are told by what stands there.
+-- The order at a place of a list: what stands there decides, or the rest does, behind it. Each law goes by the items from the
+-- place on, which are told by what stands there.
 use Prim.Native.Nat.{ℕ, _+_}
 use mathlib.Core.Path.{_≡_, refl, sym, ap, subst, _∙_}
 use mathlib.Core.List.{List}

@@ -1,6 +1,6 @@
--- A list judged by what may follow: a right list of an entry, and a configuration that could be stored, have their elements in one
--- order, so a walk needs only the category that it passed last. That a right list is such a list goes by induction on the items:
--- a list that passes an element out of this order lacks 1 or 7 at its end.
+-- A list judged by what may follow: a right list of an entry, and a configuration that could be stored, have their elements in
+-- one order, so a walk needs only the category that it passed last. That a right list is such a list goes by induction on the
+-- items: a list that passes an element out of this order lacks 1 or 7 at its end.
 use Prim.Native.Nat.{ℕ, zero, suc, _≤_}
 use native.Mathlib.Omega.{arith}
 use mathlib.Core.Path.{_≡_, refl, sym, subst, _∙_}
@@ -188,8 +188,8 @@ module _ (media : ℕ) where
     → (mayFollow last c && member c offerable ≡ true) × Past c (c ∷ seen)
   unfolding member mayFollow offerable
   past-on last c seen p m =
-      let facts = steps true Facts (refl, refl) (refl, refl) (refl, refl) (refl, refl) (refl, refl) (refl, refl) (λ e. (refl, refl))
-            (refl, refl) (refl, refl) last c m in
+      let facts = steps true Facts (refl, refl) (refl, refl) (refl, refl) (refl, refl) (refl, refl) (refl, refl)
+            (λ e. (refl, refl)) (refl, refl) (refl, refl) last c m in
       ( facts .0,
         record {
           before = refl;

@@ -46,7 +46,8 @@ zero-kept : (c : ℕ) (v : List ℕ) → reservedZero c v ≡ true → kept c v 
 unfolding reservedZero kept clearLow
 zero-kept c v e = go (told (eqb c 7)) v e
   where
-    go : Told? (eqb c 7) → (w : List ℕ) → not (eqb c 7) || eqb (getD w 0 0 % 16) 0 ≡ true → (if eqb c 7 then clearLow w else w) ≡ w
+    go : Told? (eqb c 7) → (w : List ℕ) → not (eqb c 7) || eqb (getD w 0 0 % 16) 0 ≡ true
+        → (if eqb c 7 then clearLow w else w) ≡ w
     go (failed t) w z = rw t
     go (passed t) [] z = rw t
     go (passed t) (m ∷ w) z =
@@ -206,8 +207,8 @@ module _ (caps : List Item) where
       steps false
         (λ last c. ((d : ℕ) → d ≤ c → pick d is ≡ [])
           → picks (above last) (whole c v ∷ is) ≡ element c (kept c v) ++ picks (above c) is)
-        (λ gone. refl) (λ gone. refl) (λ gone. rw (gone 2 (omega arith))) (λ gone. rw (gone 2 (omega arith), gone 4 (omega arith)))
-        (λ gone. refl) (λ gone. rw (gone 4 (omega arith))) (λ e. clash refl (sym e)) (λ gone. refl) (λ gone. refl)
+        (λ gone. refl) (λ gone. refl) (λ gone. rw (gone 2 (omega arith)))
+        (λ gone. rw (gone 2 (omega arith), gone 4 (omega arith))) (λ gone. refl) (λ gone. rw (gone 4 (omega arith))) (λ e. clash refl (sym e)) (λ gone. refl) (λ gone. refl)
 
   in-order-picks : (is : List Item) (last : ℕ) → InOrder last is → picks (above last) is ≡ written is
   unfolding inOrder written settingTest

@@ -1,5 +1,5 @@
--- `after_protection` meets its contract: what stands at the place decides, or the rest does behind it. The measure is what is left
--- of the list.
+-- `after_protection` meets its contract: what stands at the place decides, or the rest does behind it. The measure is what is
+-- left of the list.
 use Prim.Native.Nat.{ℕ, _-_, _<_}
 use mathlib.Core.Path.{refl, sym, _∙_}
 use mathlib.Core.Bool.{true}

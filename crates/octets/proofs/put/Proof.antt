@@ -81,8 +81,8 @@ returns-2 c =
     let args = at-loop .before .before .before .before .args in
     let last = length (args .src .now) - 8 in
     whole (args .dst .now) (at-put .put-eight2 .last .0) (args .src .now) (args .at) (last + 8)
-      (more (args .dst .now) (at-loop .loop .dst) (at-put .put-eight2 .last .0) (args .src .now) (args .at) (at-loop .loop .i) last
-        (at-loop .loop .inv .0) (at-put .put-eight2 .ensures) (omega arith) (omega arith) (omega arith) (omega arith))
+      (more (args .dst .now) (at-loop .loop .dst) (at-put .put-eight2 .last .0) (args .src .now) (args .at) (at-loop .loop .i)
+        last (at-loop .loop .inv .0) (at-put .put-eight2 .ensures) (omega arith) (omega arith) (omega arith) (omega arith))
       (omega arith)
 
 pub put-spec : {M : Type 1} → statement M

@@ -126,7 +126,8 @@ same-length-3 c = search needs
 returns-3 : tie.Need-returns-3
 returns-3 c =
     let s = c .before .before in
-    λ p. stored s p (single (message s p) (s .args .total) (s .args .index) (c .before .if1 .left) (c .if3 .taken)) (single-fits c)
+    λ p.
+      stored s p (single (message s p) (s .args .total) (s .args .index) (c .before .if1 .left) (c .if3 .taken)) (single-fits c)
 
 add-area-3 : tie.Need-add-area-3
 add-area-3 c = search needs
