@@ -208,7 +208,8 @@ module _ (caps : List Item) where
         (λ last c. ((d : ℕ) → d ≤ c → pick d is ≡ [])
           → picks (above last) (whole c v ∷ is) ≡ element c (kept c v) ++ picks (above c) is)
         (λ gone. refl) (λ gone. refl) (λ gone. rw (gone 2 (omega arith)))
-        (λ gone. rw (gone 2 (omega arith), gone 4 (omega arith))) (λ gone. refl) (λ gone. rw (gone 4 (omega arith))) (λ e. clash refl (sym e)) (λ gone. refl) (λ gone. refl)
+        (λ gone. rw (gone 2 (omega arith), gone 4 (omega arith))) (λ gone. refl)
+        (λ gone. rw (gone 4 (omega arith))) (λ e. clash refl (sym e)) (λ gone. refl) (λ gone. refl)
 
   in-order-picks : (is : List Item) (last : ℕ) → InOrder last is → picks (above last) is ≡ written is
   unfolding inOrder written settingTest

@@ -1,16 +1,37 @@
 -- `after_codec` meets its contract: what stands at the place decides; behind delay reporting nothing may follow.
-use borrow.Author.Needs.{needs}
-use mathlib.Core.Path.{refl, sym, _∙_}
+use Prim.Native.Nat.{ℕ, _+_, _≤_}
+use mathlib.Core.Path.{_≡_, refl, sym, _∙_}
 use mathlib.Core.Bool.{true}
 use native.Mathlib.Omega.{arith}
+use lib.ListN.{length}
+use borrow.Author.Needs.{needs}
 use borrow.Author.Tests.{ne-eqb}
 use Rattle.rules.specs.Octets.{member}
 use Rattle.rules.proofs.InOrder.{followers, offerTest}
+use Rattle.elements_reader.specs.Standing.{elementAt}
+use Rattle.elements_reader.specs.declared.Element.the-variants.{Whole}
 use Rattle.elements_reader.proofs.Stands.{stands-whole, value-length}
 use Rattle.elements_reader.proofs.OrderAt.{left-end, left-short, left-other, left-refused, left-on, left-last}
 use Rattle.book_list.proofs.Walking.{value-there, value-empty}
 use Rattle.book_list.proofs.after_codec.Statement.{statement}
 use Rattle.book_list.proofs.after_codec.Tie as tie
+
+-- ---- The element that stands at the place
+
+abbrev start-of : tie.After-element → tie.Start
+start-of p = p .before .before .before .before
+
+abbrev media-of : tie.After-element → ℕ
+media-of p = start-of p .args .media
+
+there : (p : tie.After-element)
+  → Whole (p .element .given .0 .0) (p .element .given .0 .1 .0) (p .element .given .0 .1 .1 .0)
+    ≡ elementAt (start-of p .args .list .now) (start-of p .args .at)
+there p = sym (p .element .given .1) ∙ p .before .before .element-at .ensures
+
+inside : (p : tie.After-element)
+  → p .element .given .0 .1 .1 .0 + p .element .given .0 .1 .0 ≤ length (start-of p .args .list .now)
+inside p = stands-whole _ _ _ _ _ (there p) .3
 
 element-at-requires : tie.Need-element-at-requires
 element-at-requires c κs = search needs
@@ -28,29 +49,19 @@ enum-known-element c = search needs
 returns : tie.Need-returns
 unfolding followers member
 returns c =
-    let place = c .before .before in
-    let looked = place .before .before in
-    let args = looked .before .before .args in
-    left-other true (offerTest (args .media)) 7 (args .list .now) (args .at) _ _ _
-      (sym (place .element .given .1) ∙ looked .element-at .ensures) (rw (ne-eqb _ 8 (c .if1 .taken)))
+    let p = c .before .before in
+    left-other true (offerTest (media-of p)) 7 _ _ _ _ _ (there p) (rw (ne-eqb _ 8 (c .if1 .taken)))
 
 -- delay reporting with a value
 returns-2 : tie.Need-returns-2
 unfolding followers member
 returns-2 c =
-    let place = c .before .before .before in
-    let looked = place .before .before in
-    let args = looked .before .before .args in
-    let there = sym (place .element .given .1) ∙ looked .element-at .ensures in
-    left-refused true (offerTest (args .media)) 7 (args .list .now) (args .at) _ _ _ there 8 (c .before .if1 .left) refl
-      (value-there (args .media) _ _ (value-length (args .list .now) (args .at) _ _ _ there) 8 refl (c .if2 .taken))
+    let p = c .before .before .before in
+    left-refused true (offerTest (media-of p)) 7 _ _ _ _ _ (there p) 8 (c .before .if1 .left) refl
+      (value-there (media-of p) _ _ (value-length _ _ _ _ _ (there p)) 8 refl (c .if2 .taken))
 
 add-result : tie.Need-add-result
-add-result c =
-    let place = c .before .before .before in
-    let looked = place .before .before in
-    let args = looked .before .before .args in
-    omega (arith, stands-whole (args .list .now) (args .at) _ _ _ (sym (place .element .given .1) ∙ looked .element-at .ensures) .3)
+add-result c = omega (arith, inside (c .before .before .before))
 
 returns-3 : tie.Need-returns-3
 returns-3 c =
@@ -70,13 +81,10 @@ returns-4 c =
 returns-5 : tie.Need-returns-5
 unfolding followers member
 returns-5 c =
-    let place = c .before .before .before in
-    let looked = place .before .before in
-    let args = looked .before .before .args in
-    let there = sym (place .element .given .1) ∙ looked .element-at .ensures in
-    left-last true (offerTest (args .media)) (args .list .now) _
-    ∙ left-on true (offerTest (args .media)) 7 (args .list .now) (args .at) _ _ _ there 8 (c .before .if1 .left) refl
-        (value-empty (args .media) _ _ (value-length (args .list .now) (args .at) _ _ _ there) 8 refl refl (c .if2 .left))
+    let p = c .before .before .before in
+    left-last true (offerTest (media-of p)) (start-of p .args .list .now) _
+    ∙ left-on true (offerTest (media-of p)) 7 _ _ _ _ _ (there p) 8 (c .before .if1 .left) refl
+        (value-empty (media-of p) _ _ (value-length _ _ _ _ _ (there p)) 8 refl refl (c .if2 .left))
 
 pub after-codec-spec : {M : Type 1} → statement M
 after-codec-spec =

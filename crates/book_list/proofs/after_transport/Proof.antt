@@ -1,17 +1,38 @@
 -- `after_transport` meets its contract: a codec or reporting decides with what is left behind it; any other element is judged as
 -- one behind content protection.
-use borrow.Author.Needs.{needs}
-use mathlib.Core.Path.{refl, sym, _∙_}
+use Prim.Native.Nat.{ℕ, _+_, _≤_}
+use mathlib.Core.Path.{_≡_, refl, sym, _∙_}
 use mathlib.Core.Bool.{true}
 use native.Mathlib.Omega.{arith}
+use lib.ListN.{length}
+use borrow.Author.Needs.{needs}
 use borrow.Author.Tests.{ne-eqb}
 use Rattle.rules.specs.Octets.{member}
 use Rattle.rules.proofs.InOrder.{followers, offerTest}
+use Rattle.elements_reader.specs.Standing.{elementAt}
+use Rattle.elements_reader.specs.declared.Element.the-variants.{Whole}
 use Rattle.elements_reader.proofs.Stands.{stands-whole, value-length}
 use Rattle.elements_reader.proofs.OrderAt.{left-end, left-short, left-next, left-refused, left-on, left-alike}
 use Rattle.book_list.proofs.Walking.{reporting-passed, value-there, value-empty}
 use Rattle.book_list.proofs.after_transport.Statement.{statement}
 use Rattle.book_list.proofs.after_transport.Tie as tie
+
+-- ---- The element that stands at the place
+
+abbrev start-of : tie.After-element → tie.Start
+start-of p = p .before .before .before .before
+
+abbrev media-of : tie.After-element → ℕ
+media-of p = start-of p .args .media
+
+there : (p : tie.After-element)
+  → Whole (p .element .given .0 .0) (p .element .given .0 .1 .0) (p .element .given .0 .1 .1 .0)
+    ≡ elementAt (start-of p .args .list .now) (start-of p .args .at)
+there p = sym (p .element .given .1) ∙ p .before .before .element-at .ensures
+
+inside : (p : tie.After-element)
+  → p .element .given .0 .1 .1 .0 + p .element .given .0 .1 .0 ≤ length (start-of p .args .list .now)
+inside p = stands-whole _ _ _ _ _ (there p) .3
 
 element-at-requires : tie.Need-element-at-requires
 element-at-requires c κs = search needs
@@ -26,24 +47,14 @@ enum-known-element : tie.Need-enum-known-element
 enum-known-element c = search needs
 
 codec-right-requires : tie.Need-codec-right-requires
-codec-right-requires c κs =
-    let place = c .before .before in
-    let looked = place .before .before in
-    let start = looked .before .before in
-    ( start .pre,
-      stands-whole (start .args .list .now) (start .args .at) _ _ _
-        (sym (place .element .given .1) ∙ looked .element-at .ensures) .3)
+codec-right-requires c κs = let p = c .before .before in (start-of p .pre, inside p)
 
 -- the codec
 returns : tie.Need-returns
 unfolding followers member
 returns c =
-    let place = c .before .before .before in
-    let looked = place .before .before in
-    let args = looked .before .before .args in
-    c .codec-right .ensures
-    ∙ left-next true (offerTest (args .media)) 1 (args .list .now) (args .at) _ _ _
-        (sym (place .element .given .1) ∙ looked .element-at .ensures) 7 (c .before .if1 .taken) refl
+    let p = c .before .before .before in
+    c .codec-right .ensures ∙ left-next true (offerTest (media-of p)) 1 _ _ _ _ _ (there p) 7 (c .before .if1 .taken) refl
 
 after-protection-requires : tie.Need-after-protection-requires
 after-protection-requires c κs = search needs
@@ -52,30 +63,20 @@ after-protection-requires c κs = search needs
 returns-2 : tie.Need-returns-2
 unfolding followers member
 returns-2 c =
-    let place = c .before .before .before .before in
-    let looked = place .before .before in
-    let args = looked .before .before .args in
+    let p = c .before .before .before .before in
     c .after-protection .ensures
-    ∙ left-alike true (offerTest (args .media)) 4 1 (args .list .now) (args .at) _ _ _
-        (sym (place .element .given .1) ∙ looked .element-at .ensures) (rw (ne-eqb _ 2 (c .before .if2 .taken)))
+    ∙ left-alike true (offerTest (media-of p)) 4 1 _ _ _ _ _ (there p) (rw (ne-eqb _ 2 (c .before .if2 .taken)))
 
 -- reporting with a value
 returns-3 : tie.Need-returns-3
 unfolding followers member
 returns-3 c =
-    let place = c .before .before .before .before in
-    let looked = place .before .before in
-    let args = looked .before .before .args in
-    let there = sym (place .element .given .1) ∙ looked .element-at .ensures in
-    left-refused true (offerTest (args .media)) 1 (args .list .now) (args .at) _ _ _ there 2 (c .before .if2 .left) refl
-      (value-there (args .media) _ _ (value-length (args .list .now) (args .at) _ _ _ there) 2 refl (c .if3 .taken))
+    let p = c .before .before .before .before in
+    left-refused true (offerTest (media-of p)) 1 _ _ _ _ _ (there p) 2 (c .before .if2 .left) refl
+      (value-there (media-of p) _ _ (value-length _ _ _ _ _ (there p)) 2 refl (c .if3 .taken))
 
 add-after-protection : tie.Need-add-after-protection
-add-after-protection c =
-    let place = c .before .before .before .before in
-    let looked = place .before .before in
-    let args = looked .before .before .args in
-    omega (arith, stands-whole (args .list .now) (args .at) _ _ _ (sym (place .element .given .1) ∙ looked .element-at .ensures) .3)
+add-after-protection c = omega (arith, inside (c .before .before .before .before))
 
 after-protection-requires-2 : tie.Need-after-protection-requires-2
 after-protection-requires-2 c κs = search needs
@@ -98,14 +99,11 @@ returns-5 c =
 returns-6 : tie.Need-returns-6
 unfolding followers member
 returns-6 c =
-    let place = c .before .before .before .before .before in
-    let looked = place .before .before in
-    let args = looked .before .before .args in
-    let there = sym (place .element .given .1) ∙ looked .element-at .ensures in
+    let p = c .before .before .before .before .before in
     c .after-protection2 .ensures
-    ∙ reporting-passed (offerTest (args .media)) _
-    ∙ left-on true (offerTest (args .media)) 1 (args .list .now) (args .at) _ _ _ there 2 (c .before .before .if2 .left) refl
-        (value-empty (args .media) _ _ (value-length (args .list .now) (args .at) _ _ _ there) 2 refl refl (c .before .if3 .left))
+    ∙ reporting-passed (offerTest (media-of p)) _
+    ∙ left-on true (offerTest (media-of p)) 1 _ _ _ _ _ (there p) 2 (c .before .before .if2 .left) refl
+        (value-empty (media-of p) _ _ (value-length _ _ _ _ _ (there p)) 2 refl refl (c .before .if3 .left))
 
 pub after-transport-spec : {M : Type 1} → statement M
 after-transport-spec =

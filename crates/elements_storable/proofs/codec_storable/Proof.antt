@@ -1,4 +1,5 @@
--- `codec_storable` meets its contract: the test of a codec is its length, its reserved nibble and its offer; then the rest decides.
+-- `codec_storable` meets its contract: the test of a codec is its length, its reserved nibble and its offer, and then the rest
+-- decides.
 use borrow.Author.Needs.{needs}
 use mathlib.Core.Path.{refl, _∙_}
 use native.Mathlib.Omega.{arith}
@@ -49,7 +50,8 @@ returns-3 c =
     let l = args .list .now in
     let v = take (args .size) (drop (args .first) l) in
     rw (not-offered caps 7 v
-          (lent-told caps 7 _ _ l (c .before .before .part .ensures) (c .before .is-offered .ensures) (not-true _ (c .if3 .taken))))
+          (lent-told caps 7 _ _ l (c .before .before .part .ensures) (c .before .is-offered .ensures)
+            (not-true _ (c .if3 .taken))))
 
 add-after-codec : tie.Need-add-after-codec
 add-after-codec c = omega arith
