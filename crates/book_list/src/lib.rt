@@ -56,26 +56,24 @@ fn after_protection(media: u8, list: &[u8], at: usize) -> bool
     ensures { λ r. ⌜ r ≡ inOrder true (offerTest media) 4 (items (drop at (now (list .entry)))) ⌝ }
 {
     let element = element_at(list, at);
-    match element {
-        Element::End => false,
-        Element::Short { category: _ } => false,
-        Element::Whole {
-            category,
-            length,
-            first,
-        } => {
-            if category == 7 {
-                return codec_right(media, list, first, length);
-            }
-            if category != 4 {
-                return false;
-            }
-            if length < 2 {
-                return false;
-            }
-            after_protection(media, list, first + length)
-        }
+    let Element::Whole {
+        category,
+        length,
+        first,
+    } = element
+    else {
+        return false;
+    };
+    if category == 7 {
+        return codec_right(media, list, first, length);
     }
+    if category != 4 {
+        return false;
+    }
+    if length < 2 {
+        return false;
+    }
+    after_protection(media, list, first + length)
 }
 
 // What is left behind the media transport: reporting, and then what may be left behind content protection.
@@ -84,26 +82,24 @@ fn after_transport(media: u8, list: &[u8], at: usize) -> bool
     ensures { λ r. ⌜ r ≡ inOrder true (offerTest media) 1 (items (drop at (now (list .entry)))) ⌝ }
 {
     let element = element_at(list, at);
-    match element {
-        Element::End => false,
-        Element::Short { category: _ } => false,
-        Element::Whole {
-            category,
-            length,
-            first,
-        } => {
-            if category == 7 {
-                return codec_right(media, list, first, length);
-            }
-            if category != 2 {
-                return after_protection(media, list, at);
-            }
-            if length != 0 {
-                return false;
-            }
-            after_protection(media, list, first + length)
-        }
+    let Element::Whole {
+        category,
+        length,
+        first,
+    } = element
+    else {
+        return false;
+    };
+    if category == 7 {
+        return codec_right(media, list, first, length);
     }
+    if category != 2 {
+        return after_protection(media, list, at);
+    }
+    if length != 0 {
+        return false;
+    }
+    after_protection(media, list, first + length)
 }
 
 // Whether a list is right as the offer of an entry with this media type.
@@ -112,21 +108,19 @@ pub fn list_right(media: u8, list: &[u8]) -> bool
     ensures { λ r. ⌜ r ≡ listRight media (items (now (list .entry))) ⌝ }
 {
     let element = element_at(list, 0);
-    match element {
-        Element::End => false,
-        Element::Short { category: _ } => false,
-        Element::Whole {
-            category,
-            length,
-            first,
-        } => {
-            if category != 1 {
-                return false;
-            }
-            if length != 0 {
-                return false;
-            }
-            after_transport(media, list, first + length)
-        }
+    let Element::Whole {
+        category,
+        length,
+        first,
+    } = element
+    else {
+        return false;
+    };
+    if category != 1 {
+        return false;
     }
+    if length != 0 {
+        return false;
+    }
+    after_transport(media, list, first + length)
 }

@@ -2,12 +2,13 @@
 use Prim.Native.Nat.{ℕ, _+_, _≤_}
 use mathlib.Core.Path.{_≡_, refl, sym, ap, _∙_}
 use mathlib.Core.List.{List, [], _∷_}
-use native.Mathlib.Nat.{zero-add}
+use mathlib.Core.Bool.{true}
 use native.Mathlib.Omega.{arith}
-use lib.ListN.{length}
+use lib.ListN.{length, take, drop}
+use lib.Seq.{take-take}
 use Rattle.rules.specs.Octets.{front}
 use Rattle.rules.specs.Elements.{items}
-use Rattle.rules.specs.Book.{written, upToCodec, shownBy02, shownBy0C}
+use Rattle.rules.specs.Book.{mediaType, listRight, shownBy02, shownBy0C}
 use Rattle.rules.specs.Endpoints.{Endpoint}
 use Rattle.rules.specs.Commands.{accept, reject, stays, rejects, offersAt, configurationAt, securityAt, obey}
 use Rattle.rules.specs.Host.{payloadOf}
@@ -15,9 +16,12 @@ use Rattle.commands_reply.specs.Answers.{saidOf}
 use Rattle.commands_reply.specs.declared.Said.{Said}
 use Rattle.rules.specs.declared.Signal.{Signal}
 use Rattle.rules.specs.declared.Signal.the-variants.{GetCapabilities, GetConfiguration, SecurityControl, GetAllCapabilities}
+use Rattle.rules.proofs.InOrder.{transport-first}
+use Rattle.rules.proofs.RightBook.{entry-listed}
 use Rattle.rules.proofs.ShortReplies.{caps-short}
-use Rattle.octets.specs.Patch.{patch, part}
-use Rattle.octets.proofs.Patches.{front-patch}
+use Rattle.rules.proofs.ShownInOrder.{codecEnd, end-inside, end-behind, front-shown}
+use Rattle.octets.specs.Patch.{part}
+use Rattle.octets.proofs.Patches.{part-length}
 use Rattle.book.specs.declared.places.Place.{Place}
 use Rattle.saved.specs.Records.{configAt}
 use Rattle.commands_reply.specs.Obeys.{endsOf, Obeys}
@@ -40,18 +44,48 @@ module _ {signal : Signal} {book records p reply : List ℕ} {at : Place} (call 
   config-fits e = omega (arith, ap length e, config-short (stands call), call .serves .room)
 
 module _ {book records p reply : List ℕ} {at : Place} where
-  pub shows-some : Named GetCapabilities book records p reply at → {q reply′ : List ℕ} {n : ℕ}
-    → q ≡ part (at .from) (at .size) book
-    → (reply′ ≡ patch 0 (written (upToCodec (items q))) reply) × (n ≡ 0 + length (written (upToCodec (items q))))
-    → Obeys (obey GetCapabilities) book records p reply (record { mtype = 2; length = n }) records reply′
-  unfolding obey offersAt shownBy02 part saidOf payloadOf
-  shows-some call {q} e h =
-      let shown = written (upToCodec (items q)) in
-      let same = ap (λ (l : List ℕ). written (upToCodec (items l))) e in
-      did-say call (offersAt shownBy02 (endsOf book records)) refl (accept shown)
-        (ap (λ (l : List ℕ). stays (endsOf book records) (accept l)) (sym same))
-        (ap (λ (k : ℕ). record { mtype = 2; length = k }) (h .1 ∙ zero-add (length shown)))
-        (h .0 ∙ sym (front-patch shown reply))
+  -- what is shown is the front of the list, up to the end of the codec
+  module _ (call : Named GetCapabilities book records p reply at) {l : List ℕ} {n : ℕ} (e : l ≡ part (at .from) (at .size) book)
+      (told : n ≡ 2 + codecEnd (items (drop 2 l))) where
+    abbrev listed : List ℕ
+    listed = part (at .from) (at .size) book
+
+    right : listRight (mediaType (entryIn book p at .kind)) (items listed) ≡ true
+    unfolding part
+    right = entry-listed (entryIn book p at) (stands call .placed .right)
+
+    size-told : n ≡ codecEnd (items listed)
+    size-told =
+        told
+        ∙ ap (λ (d : List ℕ). 2 + codecEnd (items (drop 2 d))) e
+        ∙ sym (end-behind listed (transport-first _ listed right))
+
+    front-fits : n ≤ at .size
+    front-fits = omega (arith, size-told, end-inside listed, part-length (at .from) (at .size) book (list-inside call))
+
+    pub front-inside : at .from + n ≤ length book
+    front-inside = omega (arith, front-fits, list-inside call)
+
+    module _ {q : List ℕ} (f : q ≡ part (at .from) n book) where
+      pub front-room : length q ≤ length reply
+      front-room =
+          omega (arith, ap length f, part-length (at .from) n book front-inside, front-fits,
+            part-length (at .from) (at .size) book (list-inside call), list-fits call refl)
+
+      same-shown : q ≡ shownBy02 (entryIn book p at)
+      unfolding part shownBy02
+      same-shown =
+          f
+          ∙ sym (take-take n (at .size) (drop (at .from) book) front-fits)
+          ∙ ap (λ (k : ℕ). take k listed) size-told
+          ∙ sym (front-shown _ listed right)
+
+      pub shows-some : {reply′ : List ℕ} {said : Said} → Says (accept q) said reply reply′
+        → Obeys (obey GetCapabilities) book records p reply said records reply′
+      unfolding obey offersAt
+      shows-some h =
+          did-say call (offersAt shownBy02 (endsOf book records)) refl (accept q)
+            (ap (λ (l : List ℕ). stays (endsOf book records) (accept l)) (sym same-shown)) (h .told) (h .written)
 
   pub shows-all : Named GetAllCapabilities book records p reply at → {q reply′ : List ℕ} {said : Said}
     → q ≡ part (at .from) (at .size) book → Says (accept q) said reply reply′

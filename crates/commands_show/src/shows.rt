@@ -1,6 +1,7 @@
 // What is answered at the endpoint that a command names, where nothing is moved.
 use book::places::Place;
 use commands_reply::Said;
+use elements_stored::shown::codec_end;
 use saved::records::config;
 
 ghost use Prim.Native.Nat.{_≤_};
@@ -24,14 +25,15 @@ fn accepted_with(reply: &mut [u8], payload: &[u8]) -> Said
     }
 }
 
-// 02: of what the endpoint offers, the elements of categories 1 to 7.
+// 02: of what the endpoint offers, the elements of categories 1 to 7, which stand up to the end of the codec. The codec is looked
+// for behind the media transport, which begins every list.
 pub fn get_capabilities(book: &[u8], records: &[u8], payload: &[u8], reply: &mut [u8], at: Place) -> Said
     requires { ⌜ Named GetCapabilities (now book) (now records) (now payload) (now reply) at ⌝ }
     ensures { λ r. ⌜ Obeys (obey GetCapabilities) (now (book .entry)) (now (records .entry)) (now (payload .entry))
       (now (reply .entry)) r (now (records .entry)) (now (reply .exit)) ⌝ }
 {
-    let length = elements_stored::shown::show(reply, 0, octets::part(book, at.from, at.size), 0);
-    Said { mtype: 2, length }
+    let size = codec_end(octets::part(book, at.from, at.size), 2);
+    accepted_with(reply, octets::part(book, at.from, size))
 }
 
 // 0C: all of it.

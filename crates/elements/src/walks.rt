@@ -83,13 +83,13 @@ pub fn places(list: &[u8], at: usize, marks: Marks) -> Marks
     ensures { λ r. ⌜ r ≡ marksFrom (now (list .entry)) at marks ⌝ }
 {
     let element = element_at(list, at);
-    match element {
-        Element::End => marks,
-        Element::Short { category: _ } => marks,
-        Element::Whole {
-            category,
-            length,
-            first,
-        } => places(list, first + length, passed(marks, category, first as u16)),
-    }
+    let Element::Whole {
+        category,
+        length,
+        first,
+    } = element
+    else {
+        return marks;
+    };
+    places(list, first + length, passed(marks, category, first as u16))
 }

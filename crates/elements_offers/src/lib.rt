@@ -67,22 +67,20 @@ pub fn offers(caps: &[u8], at: usize, category: u8, value: &[u8]) -> bool
     ensures { λ r. ⌜ r ≡ offered (items (drop at (now (caps .entry)))) category (now (value .entry)) ⌝ }
 {
     let element = element_at(caps, at);
-    match element {
-        Element::End => false,
-        Element::Short { category: _ } => false,
-        Element::Whole {
-            category: c,
-            length,
-            first,
-        } => {
-            if c == category {
-                if value_within(category, value, octets::part(caps, first, length)) {
-                    return true;
-                }
-            }
-            offers(caps, first + length, category, value)
+    let Element::Whole {
+        category: c,
+        length,
+        first,
+    } = element
+    else {
+        return false;
+    };
+    if c == category {
+        if value_within(category, value, octets::part(caps, first, length)) {
+            return true;
         }
     }
+    offers(caps, first + length, category, value)
 }
 
 // Whether a right list offers the element. It begins with the media transport, which has no value: that one is offered, and any

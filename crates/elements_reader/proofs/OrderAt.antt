@@ -14,7 +14,7 @@ use Rattle.rules.proofs.InOrder.{followers, inOrder}
 use Rattle.elements_reader.specs.Standing.{elementAt, itemsBy}
 use Rattle.elements_reader.specs.declared.Element.{Element}
 use Rattle.elements_reader.specs.declared.Element.the-variants.{End, Short, Whole}
-use Rattle.elements_reader.proofs.Stands.{Stands, stands, items-by}
+use Rattle.elements_reader.proofs.Stands.{NoWhole, not-whole, Stands, stands, items-by}
 
 module _ (again : Bool) (test : ℕ → List ℕ → Bool) (last : ℕ) (l : List ℕ) (at : ℕ) where
   -- what is left from the place on, behind an element of the category `last`
@@ -31,6 +31,12 @@ module _ (again : Bool) (test : ℕ → List ℕ → Bool) (last : ℕ) (l : Lis
   pub left-short : (c : ℕ) → Short c ≡ elementAt l at → false ≡ Left
   unfolding itemsBy inOrder
   left-short c e = left-by e
+
+  -- no whole element, where the codec was not passed
+  pub left-none : leb 7 last ≡ false → (h : Element) → h ≡ elementAt l at → NoWhole h → false ≡ Left
+  left-none f End e k = sym f ∙ left-end e
+  left-none f (Short c) e k = left-short c e
+  left-none f (Whole c n first) e k = not-whole k
 
   module _ (c n first : ℕ) (e : Whole c n first ≡ elementAt l at) where
     -- an element that may not follow

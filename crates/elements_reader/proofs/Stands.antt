@@ -9,6 +9,8 @@ use native.Mathlib.Omega.{arith}
 use lib.ListN.{length, take, drop, getD, length-drop, drop-of-length-le}
 use lib.Seq.{drop-cons, drop-drop, getD-drop, getD-take, length-take-le}
 use lib.Dec.{leb}
+use types.Run.{OneOf, miss}
+use denote.Enum.Declared.{tagOf}
 use borrow.Author.Tests.{le-leb, lt-leb, leb-true, leb-false}
 use Rattle.rules.specs.Elements.{whole, items}
 use Rattle.rules.proofs.Tests.{Told?, passed, failed, told}
@@ -16,6 +18,7 @@ use Rattle.rules.proofs.Lists.{items-none, items-lone, items-short, items-whole
 use Rattle.elements_reader.specs.Standing.{elementOf, elementAt, itemsBy}
 use Rattle.elements_reader.specs.declared.Element.{Element}
 use Rattle.elements_reader.specs.declared.Element.the-variants.{End, Short, Whole}
+use Rattle.elements_reader.proofs.Element.{the-type}
 
 -- ---- By tests on numbers
 
@@ -42,6 +45,15 @@ pub head-whole : (l : List ℕ) (at : ℕ) → at < length l → 2 ≤ length l 
 unfolding elementAt elementOf
 head-whole l at h k s =
     rw (two-there l at (omega arith), le-leb (getD l (at + 1) 0) (length (drop (at + 2) l)) (rw length-drop (omega arith)))
+
+-- ---- By the variant
+
+-- nothing, or an element cut short: what is known where a `let` of a whole element goes its other way
+abbrev pub NoWhole : Element → Type 0
+NoWhole h = OneOf (0 ∷ 1 ∷ []) (tagOf the-type h)
+
+pub not-whole : {A : Type 0} → OneOf (0 ∷ 1 ∷ []) 2 → A
+not-whole k = absurd (miss (0 ∷ 1 ∷ []) 2 tt k)
 
 -- ---- What stands there is there
 

@@ -64,20 +64,18 @@ fn after_protection(caps: &[u8], list: &[u8], at: usize) -> bool
     ensures { λ r. ⌜ r ≡ inOrder false (settingTest (items (now (caps .entry)))) 4 (items (drop at (now (list .entry)))) ⌝ }
 {
     let element = element_at(list, at);
-    match element {
-        Element::End => false,
-        Element::Short { category: _ } => false,
-        Element::Whole {
-            category,
-            length,
-            first,
-        } => {
-            if category != 7 {
-                return false;
-            }
-            codec_storable(caps, list, first, length)
-        }
+    let Element::Whole {
+        category,
+        length,
+        first,
+    } = element
+    else {
+        return false;
+    };
+    if category != 7 {
+        return false;
     }
+    codec_storable(caps, list, first, length)
 }
 
 // What is left behind reporting: content protection or the codec.
@@ -86,29 +84,27 @@ fn after_reporting(caps: &[u8], list: &[u8], at: usize) -> bool
     ensures { λ r. ⌜ r ≡ inOrder false (settingTest (items (now (caps .entry)))) 2 (items (drop at (now (list .entry)))) ⌝ }
 {
     let element = element_at(list, at);
-    match element {
-        Element::End => false,
-        Element::Short { category: _ } => false,
-        Element::Whole {
-            category,
-            length,
-            first,
-        } => {
-            if category == 7 {
-                return codec_storable(caps, list, first, length);
-            }
-            if category != 4 {
-                return false;
-            }
-            if length < 2 {
-                return false;
-            }
-            if !is_offered(caps, 4, octets::part(list, first, length)) {
-                return false;
-            }
-            after_protection(caps, list, first + length)
-        }
+    let Element::Whole {
+        category,
+        length,
+        first,
+    } = element
+    else {
+        return false;
+    };
+    if category == 7 {
+        return codec_storable(caps, list, first, length);
     }
+    if category != 4 {
+        return false;
+    }
+    if length < 2 {
+        return false;
+    }
+    if !is_offered(caps, 4, octets::part(list, first, length)) {
+        return false;
+    }
+    after_protection(caps, list, first + length)
 }
 
 // What is left behind the media transport: reporting, and then what may be left behind it.
@@ -117,29 +113,27 @@ fn after_transport(caps: &[u8], list: &[u8], at: usize) -> bool
     ensures { λ r. ⌜ r ≡ inOrder false (settingTest (items (now (caps .entry)))) 1 (items (drop at (now (list .entry)))) ⌝ }
 {
     let element = element_at(list, at);
-    match element {
-        Element::End => false,
-        Element::Short { category: _ } => false,
-        Element::Whole {
-            category,
-            length,
-            first,
-        } => {
-            if category == 7 {
-                return codec_storable(caps, list, first, length);
-            }
-            if category != 2 {
-                return after_reporting(caps, list, at);
-            }
-            if length != 0 {
-                return false;
-            }
-            if !is_offered(caps, 2, octets::part(list, first, length)) {
-                return false;
-            }
-            after_reporting(caps, list, first + length)
-        }
+    let Element::Whole {
+        category,
+        length,
+        first,
+    } = element
+    else {
+        return false;
+    };
+    if category == 7 {
+        return codec_storable(caps, list, first, length);
     }
+    if category != 2 {
+        return after_reporting(caps, list, at);
+    }
+    if length != 0 {
+        return false;
+    }
+    if !is_offered(caps, 2, octets::part(list, first, length)) {
+        return false;
+    }
+    after_reporting(caps, list, first + length)
 }
 
 // Whether the octets from `at` on could have been stored for an endpoint that offers `caps`.
@@ -148,21 +142,19 @@ pub fn could_store(caps: &[u8], list: &[u8], at: usize) -> bool
     ensures { λ r. ⌜ r ≡ couldStore (items (now (caps .entry))) (drop at (now (list .entry))) ⌝ }
 {
     let element = element_at(list, at);
-    match element {
-        Element::End => false,
-        Element::Short { category: _ } => false,
-        Element::Whole {
-            category,
-            length,
-            first,
-        } => {
-            if category != 1 {
-                return false;
-            }
-            if length != 0 {
-                return false;
-            }
-            after_transport(caps, list, first + length)
-        }
+    let Element::Whole {
+        category,
+        length,
+        first,
+    } = element
+    else {
+        return false;
+    };
+    if category != 1 {
+        return false;
     }
+    if length != 0 {
+        return false;
+    }
+    after_transport(caps, list, first + length)
 }

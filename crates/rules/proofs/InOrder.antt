@@ -10,7 +10,7 @@ use lib.ListN.{length, take, drop, getD}
 use lib.Seq.{length-take-le}
 use lib.Dec.{leb, ltb, eqb, eqb·suc-zero}
 use borrow.Author.Tests.{leb-true, leb-false, ltb-true, eqb-true, eqb-false, ne-eqb}
-use Rattle.rules.specs.Octets.{if_then_else_, member, some-of}
+use Rattle.rules.specs.Octets.{if_then_else_, member, some-of, each-of}
 use Rattle.rules.specs.Elements.{Item, whole, short, items, categoryOf, lengthCode, offerable, mayFollow, startRight}
 use Rattle.rules.specs.Elements.{offerCode, judge, blamed, itemCategory, missing, lacking, noFault, faultOr, faultPast}
 use Rattle.rules.specs.Elements.{faultIn, valueWithin, offersIn, offered}
@@ -18,7 +18,7 @@ use Rattle.rules.specs.Book.{listRight}
 use Rattle.rules.specs.declared.Rule.the-variants.{Offer}
 use Rattle.rules.specs.declared.Fault.{Fault}
 use Rattle.rules.proofs.Tests.{Told?, passed, failed, told, clash, and-l, and-r, and-false, not-passed}
-use Rattle.rules.proofs.Lists.{items-none, items-lone, items-short, items-whole}
+use Rattle.rules.proofs.Lists.{items-none, items-lone, items-short, items-whole, isWhole}
 
 -- ---- The order
 
@@ -36,6 +36,22 @@ unfoldable pub inOrder : Bool → (ℕ → List ℕ → Bool) → ℕ → List I
 inOrder again test last [] = leb 7 last
 inOrder again test last (short c ∷ is) = false
 inOrder again test last (whole c v ∷ is) = member c (followers again last) && test c v && inOrder again test c is
+
+module _ (again : Bool) (test : ℕ → List ℕ → Bool) where
+  -- of what is in order, the first element may follow and passes, and the rest is in order behind it
+  pub first-in-order : (last c : ℕ) (v : List ℕ) (is : List Item) → inOrder again test last (whole c v ∷ is) ≡ true
+    → (member c (followers again last) ≡ true) × (test c v ≡ true) × (inOrder again test c is ≡ true)
+  unfolding inOrder
+  first-in-order last c v is e =
+      let here = member c (followers again last) in
+      let both = and-l (here && test c v) (inOrder again test c is) e in
+      (and-l here (test c v) both, and-r here (test c v) both, and-r (here && test c v) (inOrder again test c is) e)
+
+  pub in-order-whole : (is : List Item) (last : ℕ) → inOrder again test last is ≡ true → each-of isWhole is ≡ true
+  unfolding inOrder each-of isWhole
+  in-order-whole [] last e = refl
+  in-order-whole (short c ∷ is) last e = clash refl (sym e)
+  in-order-whole (whole c v ∷ is) last e = in-order-whole is c (first-in-order last c v is e .2)
 
 -- ---- A step of the order
 

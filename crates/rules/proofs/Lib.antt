@@ -4,6 +4,7 @@ pub mod Lists
 pub mod InOrder
 pub mod Storable
 pub mod StoredInOrder
+pub mod ShownInOrder
 pub mod Pieces
 pub mod ReadsBack
 pub mod SavedReads

@@ -10,15 +10,15 @@ use mathlib.Core.Option.{Option, none, some}
 use lib.ListN.{length, getD}
 use lib.Dec.{leb, eqb}
 use borrow.Author.Tests.{leb-true, le-leb, eqb-true, eq-eqb, ne-eqb}
-use Rattle.rules.specs.Octets.{if_then_else_, sameOctets, member, each-of}
+use Rattle.rules.specs.Octets.{if_then_else_, sameOctets, member}
 use Rattle.rules.specs.Elements.{Item, whole, short, items, element, categoryOf, lengthCode, offered, isStrange, fixed}
 use Rattle.rules.specs.Elements.{offerable, judge, blamed, itemCategory, missing, lacking, noFault, faultOr, faultPast}
 use Rattle.rules.specs.Elements.{faultIn, has, clearLow, kept, pick, picks, stored, couldStore}
 use Rattle.rules.specs.Book.{written}
 use Rattle.rules.specs.declared.Rule.the-variants.{Setting}
 use Rattle.rules.proofs.Tests.{Told?, passed, failed, told, clash, and-l, and-r, and-both, same-test, octets-same}
-use Rattle.rules.proofs.Lists.{items-none, isWhole, written-items}
-use Rattle.rules.proofs.InOrder.{followers, inOrder, steps}
+use Rattle.rules.proofs.Lists.{items-none, written-items}
+use Rattle.rules.proofs.InOrder.{followers, inOrder, first-in-order, in-order-whole, steps}
 use Rattle.rules.proofs.Storable.{valueOf, keptOf, itemsOf, isThere, has-value, items-picks, Fine, fine-code, fine-kept}
 use Rattle.rules.proofs.Storable.{Sound, could-sound, could-same}
 
@@ -110,17 +110,6 @@ module _ (caps : List Item) where
 
   -- ---- What is in order has no fault
 
-  -- the first element passes, and the rest is in order behind it
-  first-in-order : (last c : ℕ) (v : List ℕ) (is : List Item) → InOrder last (whole c v ∷ is)
-    → (member c (followers false last) ≡ true) × (settingTest caps c v ≡ true) × InOrder c is
-  unfolding inOrder
-  first-in-order last c v is e =
-      let here = member c (followers false last) in
-      let both = and-l (here && settingTest caps c v) (inOrder false (settingTest caps) c is) e in
-      ( and-l here (settingTest caps c v) both,
-        and-r here (settingTest caps c v) both,
-        and-r (here && settingTest caps c v) (inOrder false (settingTest caps) c is) e)
-
   -- a step ascends, and passes 1 and 7 where it goes beyond them
   abbrev Step : ℕ → ℕ → Type 0
   Step last c =
@@ -156,7 +145,7 @@ module _ (caps : List Item) where
   in-order-clean [] last seen s e = rw (s .one, s .seven, e, le-leb 1 last (omega (arith, leb-true 7 last e)))
   in-order-clean (short c ∷ is) last seen s e = clash refl (sym e)
   in-order-clean (whole c v ∷ is) last seen s e =
-      let (m, t, rest) = first-in-order last c v is e in
+      let (m, t, rest) = first-in-order false (settingTest caps) last c v is e in
       let step = step-of last c m in
       let whole-right = eqb (lengthCode (categoryOf c) (length v)) 0 && reservedZero c v in
       let fine : Fine Setting caps c v =
@@ -172,19 +161,13 @@ module _ (caps : List Item) where
 
   -- ---- What is in order is stored as it is
 
-  in-order-whole : (is : List Item) (last : ℕ) → InOrder last is → each-of isWhole is ≡ true
-  unfolding inOrder each-of isWhole
-  in-order-whole [] last e = refl
-  in-order-whole (short c ∷ is) last e = clash refl (sym e)
-  in-order-whole (whole c v ∷ is) last e = in-order-whole is c (first-in-order last c v is e .2)
-
   -- nothing of a category that was passed is behind
   none-behind : (is : List Item) (last d : ℕ) → InOrder last is → d ≤ last → pick d is ≡ []
   unfolding inOrder pick
   none-behind [] last d e h = refl
   none-behind (short c ∷ is) last d e h = clash refl (sym e)
   none-behind (whole c v ∷ is) last d e h =
-      let (m, t, rest) = first-in-order last c v is e in
+      let (m, t, rest) = first-in-order false (settingTest caps) last c v is e in
       let above = leb-true (suc last) c (step-of last c m .0) in
       rw (ne-eqb d c (λ p. omega arith)) (none-behind is c d rest (omega arith))
 
@@ -216,7 +199,7 @@ module _ (caps : List Item) where
   in-order-picks [] last e = picks-none (above last)
   in-order-picks (short c ∷ is) last e = clash refl (sym e)
   in-order-picks (whole c v ∷ is) last e =
-      let (m, t, rest) = first-in-order last c v is e in
+      let (m, t, rest) = first-in-order false (settingTest caps) last c v is e in
       let long = eqb (lengthCode (categoryOf c) (length v)) 0 in
       let zero-there = and-r long (reservedZero c v) (and-l (long && reservedZero c v) (offered caps c v) t) in
       picks-first v is last c m (λ d h. none-behind is c d rest h)
@@ -226,7 +209,7 @@ module _ (caps : List Item) where
   unfolding couldStore faultIn stored offerable above member
   in-order-stored l e =
       let same : stored (items l) ≡ l =
-            in-order-picks (items l) 0 e ∙ written-items l (in-order-whole (items l) 0 e) in
+            in-order-picks (items l) 0 e ∙ written-items l (in-order-whole false (settingTest caps) (items l) 0 e) in
       and-both (eqb (faultIn Setting caps (items l) .code) 0) (sameOctets (stored (items l)) l)
         (eq-eqb _ 0
            (in-order-clean (items l) 0 [] (record { new = λ k h. refl; one = refl; seven = refl }) e))

@@ -11,7 +11,7 @@ use borrow.Fn.PlainCycle.{Measures, is, falls, and}
 use Rattle.rules.specs.Octets.{member}
 use Rattle.rules.proofs.InOrder.{followers, offerTest}
 use Rattle.elements_reader.proofs.Stands.{stands-whole, value-length}
-use Rattle.elements_reader.proofs.OrderAt.{left-end, left-short, left-other, left-next, left-refused, left-on}
+use Rattle.elements_reader.proofs.OrderAt.{left-none, left-other, left-next, left-refused, left-on}
 use Rattle.book_list.proofs.Walking.{value-short, protection-right}
 use Rattle.book_list.proofs.after_protection.Reads as after-protection
 use Rattle.book_list.proofs.after_protection.Kinds as after-protection-kinds
@@ -45,10 +45,14 @@ unfolding followers member
     after-protection.Post
     -- what `element_at` requires
     (λ c κs. tt)
-    -- the three arms
+    -- a whole element
     (λ c. c .match .keys1)
-    (λ c. c .match .keys2)
-    (λ c. c .match .keys3)
+    -- no whole element
+    (λ c.
+      let looked = c .before in
+      let args = looked .before .before .args in
+      left-none true (offerTest (args .media)) 4 (args .list .now) (args .at) refl _ (looked .element-at .ensures)
+        (c .match .keys2))
     -- what `codec_right` requires
     (λ c κs.
       let place = c .before .before in
@@ -96,18 +100,6 @@ unfolding followers member
       let there = stands-whole (start .args .list .now) (start .args .at) _ _ _
           (sym (place .element .given .1) ∙ looked .element-at .ensures) in
       (omega arith, start .pre .1))
-    -- nothing more
-    (λ c.
-      let looked = c .before .before in
-      let args = looked .before .before .args in
-      left-end true (offerTest (args .media)) 4 (args .list .now) (args .at)
-        (sym (c .enum-told .given .1) ∙ looked .element-at .ensures))
-    -- an element cut short
-    (λ c.
-      let looked = c .before .before in
-      let args = looked .before .before .args in
-      left-short true (offerTest (args .media)) 4 (args .list .now) (args .at) _
-        (sym (c .enum-told2 .given .1) ∙ looked .element-at .ensures))
     -- the rest decides
     (λ c.
       let place = c .before .before .before .before .before in

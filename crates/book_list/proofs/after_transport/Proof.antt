@@ -12,7 +12,7 @@ use Rattle.rules.proofs.InOrder.{followers, offerTest}
 use Rattle.elements_reader.specs.Standing.{elementAt}
 use Rattle.elements_reader.specs.declared.Element.the-variants.{Whole}
 use Rattle.elements_reader.proofs.Stands.{stands-whole, value-length}
-use Rattle.elements_reader.proofs.OrderAt.{left-end, left-short, left-next, left-refused, left-on, left-alike}
+use Rattle.elements_reader.proofs.OrderAt.{left-none, left-next, left-refused, left-on, left-alike}
 use Rattle.book_list.proofs.Walking.{reporting-passed, value-there, value-empty}
 use Rattle.book_list.proofs.after_transport.Statement.{statement}
 use Rattle.book_list.proofs.after_transport.Tie as tie
@@ -37,22 +37,23 @@ inside p = stands-whole _ _ _ _ _ (there p) .3
 element-at-requires : tie.Need-element-at-requires
 element-at-requires c κs = search needs
 
-enum-told : tie.Need-enum-told
-enum-told c = search needs
-
-enum-told-2 : tie.Need-enum-told-2
-enum-told-2 c = search needs
-
 enum-known-element : tie.Need-enum-known-element
 enum-known-element c = search needs
+
+-- no whole element
+returns : tie.Need-returns
+returns c =
+    let looked = c .before in
+    let args = looked .before .before .args in
+    left-none true (offerTest (args .media)) 1 (args .list .now) (args .at) refl _ (looked .element-at .ensures) (c .match .keys2)
 
 codec-right-requires : tie.Need-codec-right-requires
 codec-right-requires c κs = let p = c .before .before in (start-of p .pre, inside p)
 
 -- the codec
-returns : tie.Need-returns
+returns-2 : tie.Need-returns-2
 unfolding followers member
-returns c =
+returns-2 c =
     let p = c .before .before .before in
     c .codec-right .ensures ∙ left-next true (offerTest (media-of p)) 1 _ _ _ _ _ (there p) 7 (c .before .if1 .taken) refl
 
@@ -60,17 +61,17 @@ after-protection-requires : tie.Need-after-protection-requires
 after-protection-requires c κs = search needs
 
 -- neither codec nor reporting
-returns-2 : tie.Need-returns-2
+returns-3 : tie.Need-returns-3
 unfolding followers member
-returns-2 c =
+returns-3 c =
     let p = c .before .before .before .before in
     c .after-protection .ensures
     ∙ left-alike true (offerTest (media-of p)) 4 1 _ _ _ _ _ (there p) (rw (ne-eqb _ 2 (c .before .if2 .taken)))
 
 -- reporting with a value
-returns-3 : tie.Need-returns-3
+returns-4 : tie.Need-returns-4
 unfolding followers member
-returns-3 c =
+returns-4 c =
     let p = c .before .before .before .before in
     left-refused true (offerTest (media-of p)) 1 _ _ _ _ _ (there p) 2 (c .before .if2 .left) refl
       (value-there (media-of p) _ _ (value-length _ _ _ _ _ (there p)) 2 refl (c .if3 .taken))
@@ -81,24 +82,10 @@ add-after-protection c = omega (arith, inside (c .before .before .before .before
 after-protection-requires-2 : tie.Need-after-protection-requires-2
 after-protection-requires-2 c κs = search needs
 
-returns-4 : tie.Need-returns-4
-returns-4 c =
-    let looked = c .before .before in
-    let args = looked .before .before .args in
-    left-end true (offerTest (args .media)) 1 (args .list .now) (args .at)
-      (sym (c .enum-told .given .1) ∙ looked .element-at .ensures)
-
-returns-5 : tie.Need-returns-5
-returns-5 c =
-    let looked = c .before .before in
-    let args = looked .before .before .args in
-    left-short true (offerTest (args .media)) 1 (args .list .now) (args .at) _
-      (sym (c .enum-told2 .given .1) ∙ looked .element-at .ensures)
-
 -- reporting
-returns-6 : tie.Need-returns-6
+returns-5 : tie.Need-returns-5
 unfolding followers member
-returns-6 c =
+returns-5 c =
     let p = c .before .before .before .before .before in
     c .after-protection2 .ensures
     ∙ reporting-passed (offerTest (media-of p)) _
@@ -110,16 +97,13 @@ after-transport-spec =
     tie.close
     (tie.spec
     element-at-requires
-    enum-told
-    enum-told-2
     enum-known-element
-    codec-right-requires
     returns
-    after-protection-requires
+    codec-right-requires
     returns-2
+    after-protection-requires
     returns-3
+    returns-4
     add-after-protection
     after-protection-requires-2
-    returns-4
-    returns-5
-    returns-6)
+    returns-5)

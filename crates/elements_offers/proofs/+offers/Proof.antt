@@ -16,7 +16,7 @@ use Rattle.elements_reader.specs.Standing.{elementAt, itemsBy}
 use Rattle.elements_reader.specs.declared.Element.{Element}
 use Rattle.elements_reader.specs.declared.Element.the-variants.{End, Short, Whole}
 use Rattle.octets.specs.Patch.{part}
-use Rattle.elements_reader.proofs.Stands.{stands-whole, items-by}
+use Rattle.elements_reader.proofs.Stands.{NoWhole, not-whole, stands-whole, items-by}
 use Rattle.elements_offers.proofs.offers.Reads as offers
 use Rattle.elements_offers.proofs.offers.Kinds as offers-kinds
 use Rattle.elements_offers.proofs.+offers.Lts-offers as offers-lts
@@ -30,13 +30,11 @@ module _ (l : List ℕ) (at c : ℕ) (v : List ℕ) where
   offered-by : {h : Element} → h ≡ elementAt l at → offered (itemsBy h l) c v ≡ offered (items (drop at l)) c v
   offered-by e = ap (λ h. offered (itemsBy h l) c v) e ∙ ap (λ is. offered is c v) (sym (items-by l at))
 
-  offered-end : End ≡ elementAt l at → false ≡ offered (items (drop at l)) c v
-  unfolding offered some-of itemsBy
-  offered-end e = offered-by e
-
-  offered-short : (d : ℕ) → Short d ≡ elementAt l at → false ≡ offered (items (drop at l)) c v
+  offered-none : (h : Element) → h ≡ elementAt l at → NoWhole h → false ≡ offered (items (drop at l)) c v
   unfolding offered some-of itemsBy offersIn
-  offered-short d e = offered-by e
+  offered-none End e k = offered-by e
+  offered-none (Short d) e k = offered-by e
+  offered-none (Whole d n first) e k = not-whole k
 
   module _ (d n first : ℕ) (e : Whole d n first ≡ elementAt l at) where
     offered-here : d ≡ c → true ≡ valueWithin (categoryOf c) v (part first n l) → true ≡ offered (items (drop at l)) c v
@@ -76,12 +74,14 @@ pub +offers-spec : {M : Type 1} → statement M
     offers.Post
     -- what `element_at` requires
     (λ c κs. tt)
-    -- the first arm
+    -- a whole element
     (λ c. c .match .keys1)
-    -- the second arm
-    (λ c. c .match .keys2)
-    -- the third arm
-    (λ c. c .match .keys3)
+    -- no whole element
+    (λ c.
+      let looked = c .before in
+      let args = looked .before .before .before .args in
+      offered-none (args .caps .now) (args .at) (args .category) (args .value .now) _ (looked .element-at .ensures)
+        (c .match .keys2))
     -- what `part` requires
     (λ c κs.
       let place = c .before .before in
@@ -115,18 +115,6 @@ pub +offers-spec : {M : Type 1} → statement M
       let there = stands-whole (args .caps .now) (args .at) _ _ _
           (sym (place .element .given .1) ∙ looked .element-at .ensures) in
       (omega arith, tt))
-    -- nothing more
-    (λ c.
-      let looked = c .before .before in
-      let args = looked .before .before .before .args in
-      offered-end (args .caps .now) (args .at) (args .category) (args .value .now)
-        (sym (c .enum-told .given .1) ∙ looked .element-at .ensures))
-    -- an element cut short
-    (λ c.
-      let looked = c .before .before in
-      let args = looked .before .before .before .args in
-      offered-short (args .caps .now) (args .at) (args .category) (args .value .now) _
-        (sym (c .enum-told2 .given .1) ∙ looked .element-at .ensures))
     -- the rest decides
     (λ c.
       let place = c .before .before .before in

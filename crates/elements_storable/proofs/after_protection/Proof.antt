@@ -13,7 +13,7 @@ use Rattle.rules.proofs.StoredInOrder.{settingTest}
 use Rattle.elements_reader.specs.Standing.{elementAt}
 use Rattle.elements_reader.specs.declared.Element.the-variants.{Whole}
 use Rattle.elements_reader.proofs.Stands.{stands-whole}
-use Rattle.elements_reader.proofs.OrderAt.{left-end, left-short, left-other, left-next}
+use Rattle.elements_reader.proofs.OrderAt.{left-none, left-other, left-next}
 use Rattle.elements_storable.proofs.after_protection.Statement.{statement}
 use Rattle.elements_storable.proofs.after_protection.Tie as tie
 
@@ -37,43 +37,31 @@ inside p = stands-whole _ _ _ _ _ (there p) .3
 element-at-requires : tie.Need-element-at-requires
 element-at-requires c κs = search needs
 
-enum-told : tie.Need-enum-told
-enum-told c = search needs
-
-enum-told-2 : tie.Need-enum-told-2
-enum-told-2 c = search needs
-
 enum-known-element : tie.Need-enum-known-element
 enum-known-element c = search needs
 
--- another category
+-- no whole element
 returns : tie.Need-returns
-unfolding followers member
 returns c =
+    let looked = c .before in
+    let args = looked .before .before .before .args in
+    left-none false (settingTest (items (args .caps .now))) 4 (args .list .now) (args .at) refl _
+      (looked .element-at .ensures) (c .match .keys2)
+
+-- another category
+returns-2 : tie.Need-returns-2
+unfolding followers member
+returns-2 c =
     let p = c .before .before in
     left-other false (settingTest (caps-of p)) 4 _ _ _ _ _ (there p) (rw (ne-eqb _ 7 (c .if1 .taken)))
 
 codec-storable-requires : tie.Need-codec-storable-requires
 codec-storable-requires c κs = let p = c .before .before in (start-of p .pre, inside p)
 
-returns-2 : tie.Need-returns-2
-returns-2 c =
-    let looked = c .before .before in
-    let args = looked .before .before .before .args in
-    left-end false (settingTest (items (args .caps .now))) 4 (args .list .now) (args .at)
-      (sym (c .enum-told .given .1) ∙ looked .element-at .ensures)
-
-returns-3 : tie.Need-returns-3
-returns-3 c =
-    let looked = c .before .before in
-    let args = looked .before .before .before .args in
-    left-short false (settingTest (items (args .caps .now))) 4 (args .list .now) (args .at) _
-      (sym (c .enum-told2 .given .1) ∙ looked .element-at .ensures)
-
 -- the codec
-returns-4 : tie.Need-returns-4
+returns-3 : tie.Need-returns-3
 unfolding followers member
-returns-4 c =
+returns-3 c =
     let p = c .before .before .before in
     c .codec-storable .ensures ∙ left-next false (settingTest (caps-of p)) 4 _ _ _ _ _ (there p) 7 (c .before .if1 .left) refl
 
@@ -82,11 +70,8 @@ after-protection-spec =
     tie.close
     (tie.spec
     element-at-requires
-    enum-told
-    enum-told-2
     enum-known-element
     returns
-    codec-storable-requires
     returns-2
-    returns-3
-    returns-4)
+    codec-storable-requires
+    returns-3)

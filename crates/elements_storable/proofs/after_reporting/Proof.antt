@@ -15,7 +15,7 @@ use Rattle.rules.proofs.StoredInOrder.{settingTest}
 use Rattle.elements_reader.specs.Standing.{elementAt}
 use Rattle.elements_reader.specs.declared.Element.the-variants.{Whole}
 use Rattle.elements_reader.proofs.Stands.{stands-whole, value-length}
-use Rattle.elements_reader.proofs.OrderAt.{left-end, left-short, left-other, left-next, left-refused, left-on}
+use Rattle.elements_reader.proofs.OrderAt.{left-none, left-other, left-next, left-refused, left-on}
 use Rattle.elements_storable.proofs.Walking.{lent-told, not-offered, value-short, protection-right}
 use Rattle.elements_storable.proofs.after_reporting.Statement.{statement}
 use Rattle.elements_storable.proofs.after_reporting.Tie as tie
@@ -40,37 +40,39 @@ inside p = stands-whole _ _ _ _ _ (there p) .3
 element-at-requires : tie.Need-element-at-requires
 element-at-requires c κs = search needs
 
-enum-told : tie.Need-enum-told
-enum-told c = search needs
-
-enum-told-2 : tie.Need-enum-told-2
-enum-told-2 c = search needs
-
 enum-known-element : tie.Need-enum-known-element
 enum-known-element c = search needs
+
+-- no whole element
+returns : tie.Need-returns
+returns c =
+    let looked = c .before in
+    let args = looked .before .before .before .args in
+    left-none false (settingTest (items (args .caps .now))) 2 (args .list .now) (args .at) refl _
+      (looked .element-at .ensures) (c .match .keys2)
 
 codec-storable-requires : tie.Need-codec-storable-requires
 codec-storable-requires c κs = let p = c .before .before in (start-of p .pre, inside p)
 
 -- the codec
-returns : tie.Need-returns
+returns-2 : tie.Need-returns-2
 unfolding followers member
-returns c =
+returns-2 c =
     let p = c .before .before .before in
     c .codec-storable .ensures ∙ left-next false (settingTest (caps-of p)) 2 _ _ _ _ _ (there p) 7 (c .before .if1 .taken) refl
 
 -- another category
-returns-2 : tie.Need-returns-2
+returns-3 : tie.Need-returns-3
 unfolding followers member
-returns-2 c =
+returns-3 c =
     let p = c .before .before .before in
     left-other false (settingTest (caps-of p)) 2 _ _ _ _ _ (there p)
       (rw (ne-eqb _ 4 (c .if2 .taken), ne-eqb _ 7 (c .before .if1 .left)))
 
 -- content protection that is too short
-returns-3 : tie.Need-returns-3
+returns-4 : tie.Need-returns-4
 unfolding followers member
-returns-3 c =
+returns-4 c =
     let p = c .before .before .before .before in
     left-refused false (settingTest (caps-of p)) 2 _ _ _ _ _ (there p) 4 (c .before .if2 .left) refl
       (value-short (caps-of p) _ _ (value-length _ _ _ _ _ (there p)) 4 refl (c .if3 .taken))
@@ -82,9 +84,9 @@ is-offered-requires : tie.Need-is-offered-requires
 is-offered-requires c κs = search needs
 
 -- content protection that is not offered
-returns-4 : tie.Need-returns-4
+returns-5 : tie.Need-returns-5
 unfolding followers member
-returns-4 c =
+returns-5 c =
     let p = c .before .before .before .before .before .before .before in
     left-refused false (settingTest (caps-of p)) 2 _ _ _ _ _ (there p) 4 (c .before .before .before .before .if2 .left) refl
       (not-offered (caps-of p) 4 _
@@ -97,24 +99,10 @@ add-after-protection c = omega (arith, inside (c .before .before .before .before
 after-protection-requires : tie.Need-after-protection-requires
 after-protection-requires c κs = search needs
 
-returns-5 : tie.Need-returns-5
-returns-5 c =
-    let looked = c .before .before in
-    let args = looked .before .before .before .args in
-    left-end false (settingTest (items (args .caps .now))) 2 (args .list .now) (args .at)
-      (sym (c .enum-told .given .1) ∙ looked .element-at .ensures)
-
-returns-6 : tie.Need-returns-6
-returns-6 c =
-    let looked = c .before .before in
-    let args = looked .before .before .before .args in
-    left-short false (settingTest (items (args .caps .now))) 2 (args .list .now) (args .at) _
-      (sym (c .enum-told2 .given .1) ∙ looked .element-at .ensures)
-
 -- content protection
-returns-7 : tie.Need-returns-7
+returns-6 : tie.Need-returns-6
 unfolding followers member
-returns-7 c =
+returns-6 c =
     let p = c .before .before .before .before .before .before .before .before in
     c .after-protection .ensures
     ∙ left-on false (settingTest (caps-of p)) 2 _ _ _ _ _ (there p) 4 (c .before .before .before .before .before .if2 .left) refl
@@ -127,18 +115,15 @@ after-reporting-spec =
     tie.close
     (tie.spec
     element-at-requires
-    enum-told
-    enum-told-2
     enum-known-element
-    codec-storable-requires
     returns
+    codec-storable-requires
     returns-2
     returns-3
+    returns-4
     part-requires
     is-offered-requires
-    returns-4
+    returns-5
     add-after-protection
     after-protection-requires
-    returns-5
-    returns-6
-    returns-7)
+    returns-6)

@@ -8,7 +8,8 @@ use borrow.Fn.Kinds.{In}
 use borrow.Fn.PlainCycle.{Measures, is, falls, and}
 use Rattle.elements_reader.specs.Standing.{elementAt}
 use Rattle.elements_reader.specs.declared.Element.{Element}
-use Rattle.elements_reader.proofs.Stands.{stands-whole}
+use Rattle.elements_reader.specs.declared.Element.the-variants.{End, Short, Whole}
+use Rattle.elements_reader.proofs.Stands.{NoWhole, not-whole, stands-whole}
 use Rattle.elements.specs.Marks.{marksFrom}
 use Rattle.elements.specs.declared.marks.Marks.{Marks}
 use Rattle.elements.proofs.Passing.{marksBy, marks-by}
@@ -33,6 +34,12 @@ places-below t = and 1 places-kinds.ps (falls 1 places-kinds.ps _<_ μ-places t)
 told : (l : List ℕ) (at : ℕ) (m : Marks) {h : Element} → h ≡ elementAt l at → marksBy h l m ≡ marksFrom l at m
 told l at m e = ap (λ h. marksBy h l m) e ∙ sym (marks-by l at m)
 
+none-told : (l : List ℕ) (at : ℕ) (m : Marks) (h : Element) → h ≡ elementAt l at → NoWhole h → m ≡ marksFrom l at m
+unfolding marksBy
+none-told l at m End e k = told l at m e
+none-told l at m (Short c) e k = told l at m e
+none-told l at m (Whole c n first) e k = not-whole k
+
 pub +places-spec : {M : Type 1} → statement M
 unfolding marksBy
 +places-spec = close μ-places λ t. places-lts.spec (
@@ -47,10 +54,13 @@ unfolding marksBy
     places.Post
     -- what `element_at` requires
     (λ c κs. tt)
-    -- the three arms
+    -- a whole element
     (λ c. c .match .keys1)
-    (λ c. c .match .keys2)
-    (λ c. c .match .keys3)
+    -- no whole element
+    (λ c.
+      let looked = c .before in
+      let args = looked .before .before .args in
+      none-told (args .list .now) (args .at) (args .marks) _ (looked .element-at .ensures) (c .match .keys2))
     -- the next place fits
     (λ c.
       let place = c .before in
@@ -64,8 +74,9 @@ unfolding marksBy
       let looked = place .before .before in
       let start = looked .before .before in
       let args = start .args in
-      omega (arith, start .pre .1,
-        stands-whole (args .list .now) (args .at) _ _ _ (sym (place .element .given .1) ∙ looked .element-at .ensures) .3))
+      let there = stands-whole (args .list .now) (args .at) _ _ _
+          (sym (place .element .given .1) ∙ looked .element-at .ensures) in
+      omega (arith, start .pre .1, there .2, there .3))
     -- what `passed` requires
     (λ c κs. tt)
     -- the measure falls
@@ -77,16 +88,6 @@ unfolding marksBy
       let there = stands-whole (args .list .now) (args .at) _ _ _
           (sym (place .element .given .1) ∙ looked .element-at .ensures) in
       (omega (arith, start .pre .0, there .2, there .3), start .pre .1))
-    -- nothing more
-    (λ c.
-      let looked = c .before .before in
-      let args = looked .before .before .args in
-      told (args .list .now) (args .at) (args .marks) (sym (c .enum-told .given .1) ∙ looked .element-at .ensures))
-    -- an element cut short
-    (λ c.
-      let looked = c .before .before in
-      let args = looked .before .before .args in
-      told (args .list .now) (args .at) (args .marks) (sym (c .enum-told2 .given .1) ∙ looked .element-at .ensures))
     -- the rest decides
     (λ c.
       let place = c .before .before .before in
