@@ -179,6 +179,20 @@ patch-append at s t d h =
     ∙ ap (λ (x : List ℕ). a ++ (s ++ (t ++ x))) (drop-drop (length t) (at + length s) d ∙ ap (λ (n : ℕ). drop n d) e)
     ∙ ap (λ (x : List ℕ). a ++ x) (sym (append-assoc s t (drop (at + length (s ++ t)) d)))
 
+-- two parts in a row, written in a row
+pub patch-parts : (to i m n : ℕ) (s d : List ℕ) → i + (m + n) ≤ length s → to + (m + n) ≤ length d
+  → patch (to + m) (part (i + m) n s) (patch to (part i m s) d) ≡ patch to (part i (m + n) s) d
+unfolding part
+patch-parts to i m n s d h k =
+    let a = part i m s in
+    let b = part (i + m) n s in
+    let la : length a ≡ m = part-length i m s (omega arith) in
+    let lb : length b ≡ n = part-length (i + m) n s (omega arith) in
+    ap (λ (x : ℕ). patch (to + x) b (patch to a d)) (sym la)
+    ∙ patch-append to a b d (omega arith)
+    ∙ ap (λ (l : List ℕ). patch to l d)
+        (sym (take-add m n (drop i s) ∙ ap (λ (l : List ℕ). a ++ take n l) (drop-drop m i s)))
+
 -- a second write over all of the first
 patch-over : (at : ℕ) (s t d : List ℕ) → length s ≤ length t → at + length t ≤ length d
   → patch at t (patch at s d) ≡ patch at t d

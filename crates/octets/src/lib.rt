@@ -5,28 +5,49 @@ ghost use Prim.Native.Nat.{_+_, _≤_};
 ghost use lib.ListN.{length};
 ghost use Rattle.rules.specs.Octets.{sameOctets};
 ghost use Rattle.octets.specs.Patch.{patch, part as partOf};
+ghost use Rattle.octets.specs.Fours.{octetsIn};
+
+// Four octets by value.
+struct Four {
+    a: u8,
+    b: u8,
+    c: u8,
+    d: u8,
+}
+
+// The four octets from `i` on.
+fn four_of(s: &[u8], i: usize) -> Four
+    requires { ⌜ i + 4 ≤ length (now s) ⌝ }
+    ensures { λ r. ⌜ octetsIn r ≡ partOf i 4 (now (s .entry)) ⌝ }
+{
+    Four {
+        a: s[i],
+        b: s[i + 1],
+        c: s[i + 2],
+        d: s[i + 3],
+    }
+}
+
+// Writes four octets into `dst` from `to` on.
+fn put_four(dst: &mut [u8], to: usize, four: Four)
+    requires { ⌜ to + 4 ≤ length (now dst) ⌝ }
+    ensures { λ _. ⌜ now (dst .exit) ≡ patch to (octetsIn four) (now (dst .entry)) ⌝ }
+{
+    dst[to] = four.a;
+    dst[to + 1] = four.b;
+    dst[to + 2] = four.c;
+    dst[to + 3] = four.d;
+}
 
 // Writes eight octets of `src`, from `i` on, into `dst` from `to` on. All are read before one is written: so they move at once.
 fn put_eight(dst: &mut [u8], to: usize, src: &[u8], i: usize)
     requires { ⌜ (i + 8 ≤ length (now src)) × (to + 8 ≤ length (now dst)) ⌝ }
     ensures { λ _. ⌜ now (dst .exit) ≡ patch to (partOf i 8 (now (src .entry))) (now (dst .entry)) ⌝ }
 {
-    let a = src[i];
-    let b = src[i + 1];
-    let c = src[i + 2];
-    let d = src[i + 3];
-    let e = src[i + 4];
-    let f = src[i + 5];
-    let g = src[i + 6];
-    let h = src[i + 7];
-    dst[to] = a;
-    dst[to + 1] = b;
-    dst[to + 2] = c;
-    dst[to + 3] = d;
-    dst[to + 4] = e;
-    dst[to + 5] = f;
-    dst[to + 6] = g;
-    dst[to + 7] = h;
+    let first = four_of(src, i);
+    let second = four_of(src, i + 4);
+    put_four(dst, to, first);
+    put_four(dst, to + 4, second);
 }
 
 // Writes all of `src` into `dst` from `to` on, octet by octet: where there are fewer than eight.

@@ -1,157 +1,55 @@
--- `put_eight` meets its contract: stores in a row are one write (`patch-sets`), and octets read one by one are the part.
-use Prim.Native.Nat.{ℕ, _+_, _≤_}
-use mathlib.Core.Path.{_≡_, ap, _∙_}
-use mathlib.Core.List.{List}
-use native.Mathlib.Numerals.{towards-suc}
+-- `put_eight` meets its contract: a write followed by one behind it is one, of two parts in a row, which are one.
+use Prim.Native.Nat.{_+_}
+use mathlib.Core.Path.{ap, ap₂, _∙_}
 use native.Mathlib.Omega.{arith}
-use lib.ListN.{length, length-set}
-use lib.Seq.{sets}
 use borrow.Author.Needs.{needs}
-use Rattle.rules.proofs.SavedReads.{octetsFrom, octets-from}
-use Rattle.octets.specs.Patch.{patch, part}
-use Rattle.octets.proofs.Patches.{part-length, patch-sets}
+use Rattle.octets.specs.Patch.{patch}
+use Rattle.octets.proofs.Patches.{patch-parts}
 use Rattle.octets.proofs.put_eight.Statement.{statement}
 use Rattle.octets.proofs.put_eight.Tie as tie
 
--- octets read one by one and stored one behind the other
-stores : (n : ℕ) (d s : List ℕ) (to i : ℕ) → i + n ≤ length s → to + n ≤ length d
-  → sets d to (octetsFrom n i s) ≡ patch to (part i n s) d
-unfolding part
-stores n d s to i h k =
-    ap (sets d to) (octets-from n i s h) ∙ patch-sets to (part i n s) d (omega (arith, part-length i n s h))
+four-of-requires : tie.Need-four-of-requires
+four-of-requires c κs = search needs
 
-shared-slice-read-a : tie.Need-shared-slice-read-a
-shared-slice-read-a c = search needs
+add-four-of : tie.Need-add-four-of
+add-four-of c = search needs
 
-add-b : tie.Need-add-b
-add-b c = search needs
+four-of-requires-2 : tie.Need-four-of-requires-2
+four-of-requires-2 c κs = search needs
 
-shared-slice-read-b : tie.Need-shared-slice-read-b
-shared-slice-read-b c = search needs
+put-four-requires : tie.Need-put-four-requires
+put-four-requires c κs = search needs
 
-add-c : tie.Need-add-c
-add-c c = search needs
+add-put-four : tie.Need-add-put-four
+add-put-four c = search needs
 
-shared-slice-read-c : tie.Need-shared-slice-read-c
-shared-slice-read-c c = search needs
-
-add-d : tie.Need-add-d
-add-d c = search needs
-
-shared-slice-read-d : tie.Need-shared-slice-read-d
-shared-slice-read-d c = search needs
-
-add-e : tie.Need-add-e
-add-e c = search needs
-
-shared-slice-read-e : tie.Need-shared-slice-read-e
-shared-slice-read-e c = search needs
-
-add-f : tie.Need-add-f
-add-f c = search needs
-
-shared-slice-read-f : tie.Need-shared-slice-read-f
-shared-slice-read-f c = search needs
-
-add-g : tie.Need-add-g
-add-g c = search needs
-
-shared-slice-read-g : tie.Need-shared-slice-read-g
-shared-slice-read-g c = search needs
-
-add-h : tie.Need-add-h
-add-h c = search needs
-
-shared-slice-read-h : tie.Need-shared-slice-read-h
-shared-slice-read-h c = search needs
-
-slice-write-dst : tie.Need-slice-write-dst
-slice-write-dst c = search needs
-
-add-dst : tie.Need-add-dst
-add-dst c = search needs
-
-slice-write-dst-2 : tie.Need-slice-write-dst-2
-slice-write-dst-2 c = simp length-set (omega arith)
-
-add-dst-2 : tie.Need-add-dst-2
-add-dst-2 c = search needs
-
-slice-write-dst-3 : tie.Need-slice-write-dst-3
-slice-write-dst-3 c = simp length-set (omega arith)
-
-add-dst-3 : tie.Need-add-dst-3
-add-dst-3 c = search needs
-
-slice-write-dst-4 : tie.Need-slice-write-dst-4
-slice-write-dst-4 c = simp length-set (omega arith)
-
-add-dst-4 : tie.Need-add-dst-4
-add-dst-4 c = search needs
-
-slice-write-dst-5 : tie.Need-slice-write-dst-5
-slice-write-dst-5 c = simp length-set (omega arith)
-
-add-dst-5 : tie.Need-add-dst-5
-add-dst-5 c = search needs
-
-slice-write-dst-6 : tie.Need-slice-write-dst-6
-slice-write-dst-6 c = simp length-set (omega arith)
-
-add-dst-6 : tie.Need-add-dst-6
-add-dst-6 c = search needs
-
-slice-write-dst-7 : tie.Need-slice-write-dst-7
-slice-write-dst-7 c = simp length-set (omega arith)
-
-add-dst-7 : tie.Need-add-dst-7
-add-dst-7 c = search needs
-
-slice-write-dst-8 : tie.Need-slice-write-dst-8
-slice-write-dst-8 c = simp length-set (omega arith)
+put-four-requires-2 : tie.Need-put-four-requires-2
+put-four-requires-2 c κs = search needs
 
 same-length : tie.Need-same-length
-same-length c = simp length-set
+same-length c = search needs
 
 returns : tie.Need-returns
-unfolding octetsFrom
 returns c =
-    let args = c .before .before .before .before .before .before .before .before .args in
-    simp towards-suc (stores 8 (args .dst .now) (args .src .now) (args .to) (args .i) (omega arith) (omega arith))
+    let put-second = c .before .before in
+    let put-first = put-second .before .before .before .before in
+    let read-second = put-first .before .before in
+    let read-first = read-second .before in
+    let args = read-first .before .before .before .args in
+    put-second .put-four2 .ensures
+    ∙ ap₂ (patch (args .to + 4)) (read-second .four-of2 .ensures)
+        (put-first .put-four .ensures ∙ ap (λ s. patch (args .to) s (args .dst .now)) (read-first .four-of .ensures))
+    ∙ patch-parts (args .to) (args .i) 4 4 (args .src .now) (args .dst .now) (omega arith) (omega arith)
 
 pub put-eight-spec : {M : Type 1} → statement M
 put-eight-spec =
     tie.close
     (tie.spec
-    shared-slice-read-a
-    add-b
-    shared-slice-read-b
-    add-c
-    shared-slice-read-c
-    add-d
-    shared-slice-read-d
-    add-e
-    shared-slice-read-e
-    add-f
-    shared-slice-read-f
-    add-g
-    shared-slice-read-g
-    add-h
-    shared-slice-read-h
-    slice-write-dst
-    add-dst
-    slice-write-dst-2
-    add-dst-2
-    slice-write-dst-3
-    add-dst-3
-    slice-write-dst-4
-    add-dst-4
-    slice-write-dst-5
-    add-dst-5
-    slice-write-dst-6
-    add-dst-6
-    slice-write-dst-7
-    add-dst-7
-    slice-write-dst-8
+    four-of-requires
+    add-four-of
+    four-of-requires-2
+    put-four-requires
+    add-put-four
+    put-four-requires-2
     same-length
     returns)
