@@ -79,7 +79,7 @@ fn serve_joined(header: Header, book: &[u8], saved: &mut [u8], packet: &[u8], re
     serve(header, book, saved, &message[0..length], reply)
 }
 
-// MayTake a packet.
+// Takes a packet.
 pub fn take(book: &[u8], size: usize, saved: &mut [u8], packet: &[u8], reply: &mut [u8]) -> Told
     requires { ⌜ MayTake (now book) (now saved) (now reply) ⌝ }
     ensures { λ r. ⌜ _≡_ {A = Answered} (record { told = r; saved = now (saved .exit); reply = now (reply .exit) })

@@ -3,5 +3,5 @@ use Prim.Native.Nat.{ℕ}
 use mathlib.Core.List.{List, [], _∷_}
 use Rattle.octets.specs.declared.Four.{Four}
 
-unfoldable pub octetsIn : Four → List ℕ
-octetsIn f = f .a ∷ f .b ∷ f .c ∷ f .d ∷ []
+unfoldable pub fourOctets : Four → List ℕ
+fourOctets f = f .a ∷ f .b ∷ f .c ∷ f .d ∷ []

@@ -5,7 +5,7 @@ ghost use Prim.Native.Nat.{_+_, _≤_};
 ghost use lib.ListN.{length};
 ghost use Rattle.rules.specs.Octets.{sameOctets};
 ghost use Rattle.octets.specs.Patch.{patch, part as partOf};
-ghost use Rattle.octets.specs.Fours.{octetsIn};
+ghost use Rattle.octets.specs.Fours.{fourOctets};
 
 // Four octets by value.
 struct Four {
@@ -18,7 +18,7 @@ struct Four {
 // The four octets from `i` on.
 fn four_of(s: &[u8], i: usize) -> Four
     requires { ⌜ i + 4 ≤ length (now s) ⌝ }
-    ensures { λ r. ⌜ octetsIn r ≡ partOf i 4 (now (s .entry)) ⌝ }
+    ensures { λ r. ⌜ fourOctets r ≡ partOf i 4 (now (s .entry)) ⌝ }
 {
     Four {
         a: s[i],
@@ -31,7 +31,7 @@ fn four_of(s: &[u8], i: usize) -> Four
 // Writes four octets into `dst` from `to` on.
 fn put_four(dst: &mut [u8], to: usize, four: Four)
     requires { ⌜ to + 4 ≤ length (now dst) ⌝ }
-    ensures { λ _. ⌜ now (dst .exit) ≡ patch to (octetsIn four) (now (dst .entry)) ⌝ }
+    ensures { λ _. ⌜ now (dst .exit) ≡ patch to (fourOctets four) (now (dst .entry)) ⌝ }
 {
     dst[to] = four.a;
     dst[to + 1] = four.b;

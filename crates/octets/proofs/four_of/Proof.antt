@@ -4,7 +4,7 @@ use native.Mathlib.Omega.{arith}
 use borrow.Author.Needs.{needs}
 use Rattle.rules.proofs.SavedReads.{octetsFrom, octets-from}
 use Rattle.octets.specs.Patch.{part}
-use Rattle.octets.specs.Fours.{octetsIn}
+use Rattle.octets.specs.Fours.{fourOctets}
 use Rattle.octets.proofs.four_of.Statement.{statement}
 use Rattle.octets.proofs.four_of.Tie as tie
 
@@ -30,7 +30,7 @@ shared-slice-read-t13 : tie.Need-shared-slice-read-t13
 shared-slice-read-t13 c = search needs
 
 returns : tie.Need-returns
-unfolding octetsIn octetsFrom part
+unfolding fourOctets octetsFrom part
 returns c =
     let args = c .before .before .before .before .args in
     simp towards-suc (octets-from 4 (args .i) (args .s .now) (omega arith))

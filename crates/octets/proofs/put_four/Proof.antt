@@ -2,9 +2,8 @@
 use native.Mathlib.Numerals.{towards-suc}
 use native.Mathlib.Omega.{arith}
 use lib.ListN.{length-set}
-use lib.Seq.{sets}
 use borrow.Author.Needs.{needs}
-use Rattle.octets.specs.Fours.{octetsIn}
+use Rattle.octets.specs.Fours.{fourOctets}
 use Rattle.octets.proofs.Patches.{patch-sets}
 use Rattle.octets.proofs.put_four.Statement.{statement}
 use Rattle.octets.proofs.put_four.Tie as tie
@@ -34,10 +33,10 @@ same-length : tie.Need-same-length
 same-length c = simp length-set
 
 returns : tie.Need-returns
-unfolding octetsIn
+unfolding fourOctets
 returns c =
     let args = c .args in
-    simp towards-suc (patch-sets (args .to) (octetsIn (args .four)) (args .dst .now) (omega arith))
+    simp towards-suc (patch-sets (args .to) (fourOctets (args .four)) (args .dst .now) (omega arith))
 
 pub put-four-spec : {M : Type 1} → statement M
 put-four-spec =
