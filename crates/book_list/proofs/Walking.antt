@@ -9,7 +9,8 @@ use borrow.Author.Tests.{eq-eqb, ne-eqb, lt-ltb, le-ltb}
 use Rattle.rules.specs.Octets.{member}
 use Rattle.rules.specs.Elements.{Item, whole, short, startRight}
 use Rattle.rules.proofs.Tests.{and-false}
-use Rattle.rules.proofs.InOrder.{followers, inOrder, offerTest, empty-right, two-right}
+use Rattle.elements_reader.specs.Orders.{followers, inOrder, offerTest}
+use Rattle.elements_reader.proofs.InOrder.{empty-right, two-right}
 
 -- behind reporting there is left what may be left behind content protection
 pub reporting-passed : (test : ℕ → List ℕ → Bool) (is : List Item) → inOrder true test 4 is ≡ inOrder true test 2 is

@@ -9,7 +9,7 @@ ghost use Prim.Native.Nat.{_+_, _≤_};
 ghost use lib.ListN.{length, take, drop};
 ghost use Rattle.rules.specs.Elements.{items};
 ghost use Rattle.rules.specs.Book.{listRight};
-ghost use Rattle.rules.proofs.InOrder.{inOrder, offerTest};
+ghost use Rattle.elements_reader.specs.Orders.{inOrder, offerTest};
 
 // What is left behind the codec: delay reporting, or nothing.
 fn after_codec(media: u8, list: &[u8], at: usize) -> bool

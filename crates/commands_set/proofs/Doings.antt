@@ -20,7 +20,8 @@ use Rattle.rules.specs.declared.Signal.{Signal}
 use Rattle.rules.proofs.Tests.{Told?, told, passed, failed}
 use Rattle.rules.proofs.ShortReplies.{caps-short}
 use Rattle.rules.proofs.RightBook.{entry-listed}
-use Rattle.rules.proofs.InOrder.{TransportFirst, transport-first}
+use Rattle.elements_reader.specs.Orders.{TransportFirst}
+use Rattle.elements_reader.proofs.InOrder.{transport-first}
 use Rattle.octets.specs.Patch.{patch}
 use Rattle.octets.proofs.Patches.{patch-comm, patch-append}
 use Rattle.elements.specs.Walks.{walkedAs}

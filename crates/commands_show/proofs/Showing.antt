@@ -16,10 +16,11 @@ use Rattle.commands_reply.specs.Answers.{saidOf}
 use Rattle.commands_reply.specs.declared.Said.{Said}
 use Rattle.rules.specs.declared.Signal.{Signal}
 use Rattle.rules.specs.declared.Signal.the-variants.{GetCapabilities, GetConfiguration, SecurityControl, GetAllCapabilities}
-use Rattle.rules.proofs.InOrder.{transport-first}
+use Rattle.elements_reader.specs.Orders.{codecEnd}
+use Rattle.elements_reader.proofs.InOrder.{transport-first}
+use Rattle.elements_reader.proofs.ShownInOrder.{end-inside, end-behind, front-shown}
 use Rattle.rules.proofs.RightBook.{entry-listed}
 use Rattle.rules.proofs.ShortReplies.{caps-short}
-use Rattle.rules.proofs.ShownInOrder.{codecEnd, end-inside, end-behind, front-shown}
 use Rattle.octets.specs.Patch.{part}
 use Rattle.octets.proofs.Patches.{part-length}
 use Rattle.book.specs.declared.places.Place.{Place}

@@ -8,7 +8,7 @@ use rules::Fault;
 ghost use mathlib.Core.Path.{_≡_};
 ghost use mathlib.Core.Bool.{false};
 ghost use Rattle.rules.specs.Elements.{items, whole, categoryOf, isStrange, fixed, itemCode, lacking};
-ghost use Rattle.rules.proofs.InOrder.{TransportFirst};
+ghost use Rattle.elements_reader.specs.Orders.{TransportFirst};
 ghost use Rattle.elements.specs.Marks.{seenIn};
 ghost use Rattle.elements.specs.Walks.{commandRule};
 

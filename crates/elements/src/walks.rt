@@ -13,7 +13,7 @@ ghost use mathlib.Core.Path.{_≡_};
 ghost use Prim.Native.Nat.{_≤_};
 ghost use lib.ListN.{length};
 ghost use Rattle.rules.specs.Elements.{items, lacking};
-ghost use Rattle.rules.proofs.InOrder.{TransportFirst};
+ghost use Rattle.elements_reader.specs.Orders.{TransportFirst};
 ghost use Rattle.elements.specs.Marks.{seenIn, marksFrom};
 ghost use Rattle.elements.specs.Walks.{commandRule, walkedAs, walkOf, checkOf};
 

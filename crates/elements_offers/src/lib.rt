@@ -5,7 +5,7 @@ use elements_reader::Element;
 ghost use mathlib.Core.Path.{_≡_};
 ghost use lib.ListN.{drop};
 ghost use Rattle.rules.specs.Elements.{items, categoryOf, lengthCode, codecWithin, valueWithin, offered};
-ghost use Rattle.rules.proofs.InOrder.{TransportFirst};
+ghost use Rattle.elements_reader.specs.Orders.{TransportFirst};
 
 // The code for a value of this length, 0 where it is right.
 pub fn length_code(category: u8, length: usize) -> u8

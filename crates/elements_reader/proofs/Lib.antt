@@ -1,3 +1,6 @@
+pub mod InOrder
+pub mod StoredInOrder
+pub mod ShownInOrder
 pub mod Stands
 pub mod Slots
 pub mod OrderAt

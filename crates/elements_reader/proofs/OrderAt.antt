@@ -10,7 +10,7 @@ use lib.Dec.{leb}
 use borrow.Author.Tests.{le-leb, lt-leb}
 use Rattle.rules.specs.Octets.{member}
 use Rattle.rules.specs.Elements.{items}
-use Rattle.rules.proofs.InOrder.{followers, inOrder}
+use Rattle.elements_reader.specs.Orders.{followers, inOrder}
 use Rattle.elements_reader.specs.Standing.{elementAt, itemsBy}
 use Rattle.elements_reader.specs.declared.Element.{Element}
 use Rattle.elements_reader.specs.declared.Element.the-variants.{End, Short, Whole}

@@ -10,8 +10,8 @@ use borrow.Author.Tests.{eq-eqb, ne-eqb, lt-ltb, le-ltb}
 use Rattle.rules.specs.Octets.{member}
 use Rattle.rules.specs.Elements.{Item, offered}
 use Rattle.rules.proofs.Tests.{and-false}
-use Rattle.rules.proofs.InOrder.{empty-right, two-right}
-use Rattle.rules.proofs.StoredInOrder.{reservedZero, settingTest}
+use Rattle.elements_reader.specs.Orders.{reservedZero, settingTest}
+use Rattle.elements_reader.proofs.InOrder.{empty-right, two-right}
 use Rattle.octets.specs.Patch.{part}
 
 -- what is told of a value that is lent as a part of the list

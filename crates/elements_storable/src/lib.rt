@@ -9,8 +9,7 @@ ghost use mathlib.Core.Bool.{false, _&&_};
 ghost use Prim.Native.Nat.{_+_, _≤_};
 ghost use lib.ListN.{length, take, drop};
 ghost use Rattle.rules.specs.Elements.{items, couldStore};
-ghost use Rattle.rules.proofs.InOrder.{TransportFirst, inOrder};
-ghost use Rattle.rules.proofs.StoredInOrder.{settingTest};
+ghost use Rattle.elements_reader.specs.Orders.{inOrder, TransportFirst, settingTest};
 
 // What is left behind the codec: delay reporting, or nothing.
 fn after_codec(caps: &[u8], list: &[u8], at: usize) -> bool

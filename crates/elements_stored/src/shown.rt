@@ -6,7 +6,7 @@ ghost use mathlib.Core.Path.{_≡_};
 ghost use Prim.Native.Nat.{_+_};
 ghost use lib.ListN.{drop};
 ghost use Rattle.rules.specs.Elements.{items};
-ghost use Rattle.rules.proofs.ShownInOrder.{codecEnd};
+ghost use Rattle.elements_reader.specs.Orders.{codecEnd};
 
 // Where the codec ends that is looked for from `at` on. In a right list all elements up to there are shown and none behind.
 pub fn codec_end(list: &[u8], at: usize) -> usize

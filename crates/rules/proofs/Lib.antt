@@ -1,10 +1,7 @@
 pub mod Tests
 pub mod Traces
 pub mod Lists
-pub mod InOrder
 pub mod Storable
-pub mod StoredInOrder
-pub mod ShownInOrder
 pub mod Pieces
 pub mod ReadsBack
 pub mod SavedReads

@@ -12,7 +12,7 @@ ghost use lib.Dec.{eqb};
 ghost use Rattle.rules.specs.Elements.{items, has};
 ghost use Rattle.rules.specs.Book.{isSource};
 ghost use Rattle.rules.specs.Endpoints.{isReported};
-ghost use Rattle.rules.proofs.InOrder.{TransportFirst};
+ghost use Rattle.elements_reader.specs.Orders.{TransportFirst};
 ghost use Rattle.saved_keeps.specs.Settings.{settingsRight};
 
 // Whether a delay can be reported: to a source whose configuration has category 8, which has no value.

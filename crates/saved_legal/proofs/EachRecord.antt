@@ -17,7 +17,8 @@ use Rattle.rules.specs.Saved.{recordRoom, headRoom, configRoom, unused, channel
 use Rattle.rules.specs.Saved.{endsIn, recordsRight}
 use Rattle.rules.proofs.Tests.{and-l, and-r}
 use Rattle.rules.proofs.Places.{at-most-one}
-use Rattle.rules.proofs.InOrder.{TransportFirst, transport-first}
+use Rattle.elements_reader.specs.Orders.{TransportFirst}
+use Rattle.elements_reader.proofs.InOrder.{transport-first}
 use Rattle.octets.specs.Patch.{part}
 use Rattle.book.proofs.Entries.{RightEntry}
 use Rattle.book.proofs.Found.{entryBy, entries-first, book-length, all-counted}

@@ -30,7 +30,7 @@ ghost use lib.Dec.{eqb};
 ghost use Rattle.rules.specs.Book.{bookNumber, bookOf};
 ghost use Rattle.rules.specs.Endpoints.{channelRight};
 ghost use Rattle.rules.specs.Saved.{recordRoom, recordRight};
-ghost use Rattle.rules.proofs.InOrder.{TransportFirst};
+ghost use Rattle.elements_reader.specs.Orders.{TransportFirst};
 ghost use Rattle.saved_legal.specs.Legal.{usedRight, idlesIn, awaitsIn, recordLegal, recordsLegal};
 
 fn channel_right(state: State, channel: Channel) -> bool

@@ -9,7 +9,7 @@ use borrow.Author.Tests.{ne-eqb}
 use borrow.Fn.Kinds.{In}
 use borrow.Fn.PlainCycle.{Measures, is, falls, and}
 use Rattle.rules.specs.Octets.{member}
-use Rattle.rules.proofs.InOrder.{followers, offerTest}
+use Rattle.elements_reader.specs.Orders.{followers, offerTest}
 use Rattle.elements_reader.proofs.Stands.{stands-whole, value-length}
 use Rattle.elements_reader.proofs.OrderAt.{left-none, left-other, left-next, left-refused, left-on}
 use Rattle.book_list.proofs.Walking.{value-short, protection-right}

@@ -3,7 +3,7 @@ use borrow.Author.Needs.{needs}
 use mathlib.Core.Path.{_≡_, sym, subst, _∙_}
 use mathlib.Core.Bool.{true}
 use Rattle.rules.specs.Elements.{items, offered}
-use Rattle.rules.proofs.InOrder.{transport-offered, offered-behind}
+use Rattle.elements_reader.proofs.InOrder.{transport-offered, offered-behind}
 use Rattle.elements_offers.proofs.is_offered.Statement.{statement}
 use Rattle.elements_offers.proofs.is_offered.Tie as tie
 

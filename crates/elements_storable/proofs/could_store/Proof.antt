@@ -9,8 +9,9 @@ use borrow.Author.Needs.{needs}
 use borrow.Author.Tests.{ne-eqb}
 use Rattle.rules.specs.Octets.{member}
 use Rattle.rules.specs.Elements.{Item, items}
-use Rattle.rules.proofs.InOrder.{followers, transport-offered}
-use Rattle.rules.proofs.StoredInOrder.{settingTest, could-in-order}
+use Rattle.elements_reader.specs.Orders.{followers, settingTest}
+use Rattle.elements_reader.proofs.InOrder.{transport-offered}
+use Rattle.elements_reader.proofs.StoredInOrder.{could-in-order}
 use Rattle.elements_reader.specs.Standing.{elementAt}
 use Rattle.elements_reader.specs.declared.Element.the-variants.{Whole}
 use Rattle.elements_reader.proofs.Stands.{stands-whole, value-length}

@@ -8,7 +8,7 @@ use lib.ListN.{take, drop}
 use borrow.Author.Needs.{needs}
 use Rattle.rules.specs.Elements.{items}
 use Rattle.rules.specs.declared.Rule.the-variants.{Reconfiguring}
-use Rattle.rules.proofs.InOrder.{TransportFirst}
+use Rattle.elements_reader.specs.Orders.{TransportFirst}
 use Rattle.octets.specs.Patch.{part}
 use Rattle.elements.specs.Walks.{checkOf}
 use Rattle.commands_checks.proofs.Meeting.{stands}

@@ -14,7 +14,7 @@ use borrow.Author.Tests.{not-true, not-false}
 use Rattle.rules.specs.Elements.{items, couldStore}
 use Rattle.rules.specs.Endpoints.{farRight}
 use Rattle.rules.specs.Commands.{farIn}
-use Rattle.rules.proofs.InOrder.{TransportFirst}
+use Rattle.elements_reader.specs.Orders.{TransportFirst}
 use Rattle.octets.specs.Patch.{part}
 use Rattle.commands_checks.proofs.Meeting.{stands}
 use Rattle.commands_set.proofs.Doings.{listed}

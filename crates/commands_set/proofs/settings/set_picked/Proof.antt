@@ -12,7 +12,7 @@ use Rattle.rules.specs.Elements.{items}
 use Rattle.rules.specs.Endpoints.{farRight, settledBy}
 use Rattle.rules.specs.Commands.{farIn}
 use Rattle.rules.specs.declared.Rule.the-variants.{Setting}
-use Rattle.rules.proofs.InOrder.{TransportFirst}
+use Rattle.elements_reader.specs.Orders.{TransportFirst}
 use Rattle.octets.specs.Patch.{part}
 use Rattle.elements.specs.Walks.{checkOf}
 use Rattle.commands_checks.proofs.Meeting.{stands}

@@ -10,7 +10,7 @@ use borrow.Author.Tests.{eq-eqb, ne-eqb}
 use borrow.Fn.Kinds.{In}
 use borrow.Fn.PlainCycle.{Measures, is, falls, and}
 use Rattle.rules.specs.Elements.{items, element}
-use Rattle.rules.proofs.ShownInOrder.{codecEnd}
+use Rattle.elements_reader.specs.Orders.{codecEnd}
 use Rattle.elements_reader.specs.Standing.{elementAt, itemsBy}
 use Rattle.elements_reader.specs.declared.Element.{Element}
 use Rattle.elements_reader.specs.declared.Element.the-variants.{End, Short, Whole}

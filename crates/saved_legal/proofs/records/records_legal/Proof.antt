@@ -7,7 +7,7 @@ use lib.ListN.{length, getD}
 use borrow.Author.Tests.{not-true, not-false}
 use Rattle.rules.specs.Book.{bookOf}
 use Rattle.rules.specs.Saved.{recordRoom}
-use Rattle.rules.proofs.InOrder.{TransportFirst}
+use Rattle.elements_reader.specs.Orders.{TransportFirst}
 use Rattle.octets.specs.Patch.{part}
 use Rattle.octets.proofs.Patches.{part-length}
 use Rattle.book.proofs.Entries.{RightEntry, RightEntries, first-entry, other-entries, right-head}

@@ -10,32 +10,18 @@ use lib.ListN.{length, take, drop, getD}
 use lib.Seq.{length-take-le}
 use lib.Dec.{leb, ltb, eqb, eqb·suc-zero}
 use borrow.Author.Tests.{leb-true, leb-false, ltb-true, eqb-true, eqb-false, ne-eqb}
 use Rattle.rules.specs.Octets.{if_then_else_, member, some-of, each-of}
 use Rattle.rules.specs.Elements.{Item, whole, short, items, categoryOf, lengthCode, offerable, mayFollow, startRight}
 use Rattle.rules.specs.Elements.{offerCode, judge, blamed, itemCategory, missing, lacking, noFault, faultOr, faultPast}
 use Rattle.rules.specs.Elements.{faultIn, valueWithin, offersIn, offered}
 use Rattle.rules.specs.Book.{listRight}
 use Rattle.rules.specs.declared.Rule.the-variants.{Offer}
 use Rattle.rules.specs.declared.Fault.{Fault}
 use Rattle.rules.proofs.Tests.{Told?, passed, failed, told, clash, and-l, and-r, and-false, not-passed}
 use Rattle.rules.proofs.Lists.{items-none, items-lone, items-short, items-whole, isWhole}
+use Rattle.elements_reader.specs.Orders.{followers, inOrder, offerTest, TransportFirst}
 
--- ---- The order
-
--- What may follow an element of the category `last` (0: it is the first). Content protection (4) may follow itself in an entry's
--- list, `again`, and not in a configuration.
-unfoldable pub followers : Bool → ℕ → List ℕ
-followers again last =
-    getD
-      ((1 ∷ []) ∷ (2 ∷ 4 ∷ 7 ∷ []) ∷ (4 ∷ 7 ∷ []) ∷ [] ∷ (if again then 4 ∷ 7 ∷ [] else 7 ∷ []) ∷ [] ∷ [] ∷ (8 ∷ []) ∷ [])
-      last []
-
--- A list, or what is left of one behind an element of the category `last`: its elements are whole, in order and pass a test of
--- their own, and the codec (7) is not missing.
-unfoldable pub inOrder : Bool → (ℕ → List ℕ → Bool) → ℕ → List Item → Bool
-inOrder again test last [] = leb 7 last
-inOrder again test last (short c ∷ is) = false
-inOrder again test last (whole c v ∷ is) = member c (followers again last) && test c v && inOrder again test c is
+-- ---- The first of what is in order
 
 module _ (again : Bool) (test : ℕ → List ℕ → Bool) where
   -- of what is in order, the first element may follow and passes, and the rest is in order behind it
@@ -87,10 +73,6 @@ steps again P p₀₁ p₁₂ p₁₄ p₁₇ p₂₄ p₂₇ p₄₄ p₄₇ p�
 steps again P p₀₁ p₁₂ p₁₄ p₁₇ p₂₄ p₂₇ p₄₄ p₄₇ p₇₈ (suc (suc (suc (suc (suc (suc (suc (suc last)))))))) c m = none-of c m
 
 -- ---- A right list of an entry
-
--- what is asked of an element of an entry's list besides its place in the order
-unfoldable pub offerTest : ℕ → ℕ → List ℕ → Bool
-offerTest media c v = eqb (lengthCode (categoryOf c) (length v)) 0 && startRight media c v
 
 by-offerable : (P : ℕ → Type 0) → P 1 → P 2 → P 4 → P 7 → P 8 → (c : ℕ) → member c offerable ≡ true → P c
 unfolding offerable
@@ -300,9 +282,6 @@ first-empty media c n xs h e =
     or-false : (a : Bool) → a || false ≡ true → a ≡ true
     or-false true t = refl
     or-false false t = t
-
-abbrev pub TransportFirst : List ℕ → Type 0
-TransportFirst l = items l ≡ whole 1 [] ∷ items (drop 2 l)
 
 pub transport-first : (media : ℕ) (l : List ℕ) → listRight media (items l) ≡ true → TransportFirst l
 unfolding inOrder

@@ -9,19 +9,13 @@ use mathlib.Core.Bool.{Bool, true, false}
 use lib.ListN.{length, take, drop, length-append}
 use lib.Seq.{take-append-add}
 use lib.Dec.{leb, eqb}
 use Rattle.rules.specs.Octets.{if_then_else_, member}
 use Rattle.rules.specs.Elements.{Item, whole, short, items, element}
 use Rattle.rules.specs.Book.{listRight, written, upToCodec}
 use Rattle.rules.proofs.Tests.{Told?, passed, failed, told, clash}
 use Rattle.rules.proofs.Lists.{written-items, written-length}
-use Rattle.rules.proofs.InOrder.{followers, inOrder, first-in-order, in-order-whole, steps, offerTest, list-in-order}
-use Rattle.rules.proofs.InOrder.{TransportFirst}
-
--- how many octets the elements take up to the end of the first codec
-unfoldable pub codecEnd : List Item → ℕ
-codecEnd [] = 0
-codecEnd (short c ∷ is) = 0
-codecEnd (whole c v ∷ is) = length (element c v) + (if eqb c 7 then 0 else codecEnd is)
+use Rattle.elements_reader.specs.Orders.{followers, inOrder, offerTest, TransportFirst, codecEnd}
+use Rattle.elements_reader.proofs.InOrder.{first-in-order, in-order-whole, steps, list-in-order}
 
 end-written : (is : List Item) → codecEnd is ≤ length (written is)
 unfolding codecEnd written

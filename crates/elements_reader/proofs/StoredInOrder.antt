@@ -5,30 +5,23 @@ use Prim.Native.Nat.{ℕ, zero, suc, _/_, _%_, _*_, _≤_, _<_}
 use native.Mathlib.Omega.{arith}
 use mathlib.Core.Path.{_≡_, refl, sym, ap, ap₂, subst, _∙_}
 use mathlib.Core.List.{List, [], _∷_, _++_}
-use mathlib.Core.Bool.{Bool, true, false, not, _&&_, _||_}
+use mathlib.Core.Bool.{true, false, not, _&&_, _||_}
 use mathlib.Core.Option.{Option, none, some}
 use lib.ListN.{length, getD}
 use lib.Dec.{leb, eqb}
 use borrow.Author.Tests.{leb-true, le-leb, eqb-true, eq-eqb, ne-eqb}
 use Rattle.rules.specs.Octets.{if_then_else_, sameOctets, member}
 use Rattle.rules.specs.Elements.{Item, whole, short, items, element, categoryOf, lengthCode, offered, isStrange, fixed}
 use Rattle.rules.specs.Elements.{offerable, judge, blamed, itemCategory, missing, lacking, noFault, faultOr, faultPast}
 use Rattle.rules.specs.Elements.{faultIn, has, clearLow, kept, pick, picks, stored, couldStore}
 use Rattle.rules.specs.Book.{written}
 use Rattle.rules.specs.declared.Rule.the-variants.{Setting}
 use Rattle.rules.proofs.Tests.{Told?, passed, failed, told, clash, and-l, and-r, and-both, same-test, octets-same}
 use Rattle.rules.proofs.Lists.{items-none, written-items}
-use Rattle.rules.proofs.InOrder.{followers, inOrder, first-in-order, in-order-whole, steps}
 use Rattle.rules.proofs.Storable.{valueOf, keptOf, itemsOf, isThere, has-value, items-picks, Fine, fine-code, fine-kept}
 use Rattle.rules.proofs.Storable.{Sound, could-sound, could-same}
-
--- the reserved nibble of a codec is zero
-unfoldable pub reservedZero : ℕ → List ℕ → Bool
-reservedZero c v = not (eqb c 7) || eqb (getD v 0 0 % 16) 0
-
--- what is asked of an element of a configuration besides its place in the order
-unfoldable pub settingTest : List Item → ℕ → List ℕ → Bool
-settingTest caps c v = eqb (lengthCode (categoryOf c) (length v)) 0 && reservedZero c v && offered caps c v
+use Rattle.elements_reader.specs.Orders.{followers, inOrder, reservedZero, settingTest}
+use Rattle.elements_reader.proofs.InOrder.{first-in-order, in-order-whole, steps}
 
 -- ---- What is kept of a value has the nibble zero, and a value with the nibble zero is kept whole
 
