@@ -8,16 +8,20 @@
 #include "bawbeenor.h"
 
 /* A step: its kind, six numbers of 16 bits, low octet first, the length of its octets, and the octets. */
-enum { BOOK, REBOOK, SIZE, AREA, PACKET, UP, DOWN, LOST, SETTINGS, DELAY, CUT, MEASURE, STATUS };
+enum { BOOK, REBOOK, SIZE, AREA, PACKET, UP, DOWN, LOST, SETTINGS, DELAY, CUT, MEASURE, STATUS, BURST };
 
+/* Of a burst the first number is the count of its packets, and before their octets stand their lengths, 16 bits each: they are made
+   ready when the trace is read, as a host has them ready. */
 typedef struct {
     unsigned kind, numbers[6];
     size_t length;
     const uint8_t *octets;
+    const size_t *lengths;
 } step;
 
 static uint8_t trace[1 << 24], saved[BAWBEENOR_SAVED_LONGEST], reply[65535], area[65535];
 static step steps[1 << 18];
+static size_t lengths[1 << 18];
 
 static unsigned pair(const uint8_t *p) { return p[0] + 256u * p[1]; }
 
@@ -28,7 +32,7 @@ static size_t read_trace(const char *name)
         perror(name);
         exit(1);
     }
-    size_t length = fread(trace, 1, sizeof trace, in), count = 0;
+    size_t length = fread(trace, 1, sizeof trace, in), count = 0, packets = 0;
     fclose(in);
     for (size_t at = 0; at < length && count < sizeof steps / sizeof *steps; count++) {
         step *s = &steps[count];
@@ -38,6 +42,13 @@ static size_t read_trace(const char *name)
         s->length = pair(trace + at + 13);
         s->octets = trace + at + 15;
         at += 15 + s->length;
+        if (s->kind == BURST) {
+            s->lengths = lengths + packets;
+            for (size_t i = 0; i < s->numbers[0] && packets < sizeof lengths / sizeof *lengths; i++)
+                lengths[packets++] = pair(s->octets + 2 * i);
+            s->octets += 2 * s->numbers[0];
+            s->length -= 2 * s->numbers[0];
+        }
     }
     return count;
 }
@@ -65,6 +76,15 @@ static inline __attribute__((always_inline)) uint64_t take(const step *s)
     case PACKET: {
         bawbeenor_answer a = bawbeenor_packet(book, book_length, size, saved, sizeof saved, s->octets, s->length, reply, reply_length);
         return a.number + a.length;
+    }
+    case BURST: {
+        bawbeenor_answers a = bawbeenor_burst(book, book_length, size, saved, sizeof saved, s->octets, s->length, s->lengths,
+                                              s->numbers[0], reply, reply_length);
+        uint64_t sum = a.number;
+#pragma GCC unroll 16 /* one instruction a packet: all that is told is looked at, and little of that is counted */
+        for (size_t i = 0; i < BAWBEENOR_BURST; i++)
+            sum += a.told[i].length;
+        return sum;
     }
     case UP:
     case DOWN:

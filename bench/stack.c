@@ -8,8 +8,8 @@
 
 enum { ROOM = 32768, PAINT = 0xA5 };
 
-static const char *const names[] = { "check", "fresh", "packet", "event", "settings", "delay", "status", "packets", "cut" };
-enum { CHECK, FRESH, PACKET, EVENT, SETTINGS, DELAY, STATUS, PACKETS, CUT, CALLS };
+static const char *const names[] = { "check", "fresh", "packet", "burst", "event", "settings", "delay", "status", "packets", "cut" };
+enum { CHECK, FRESH, PACKET, BURST, EVENT, SETTINGS, DELAY, STATUS, PACKETS, CUT, CALLS };
 static long deepest[CALLS];
 
 static void report(void)
@@ -63,6 +63,10 @@ WRAP(uint8_t, fresh, FRESH, (const uint8_t *b, size_t n, uint8_t *s, size_t m), 
 WRAP(bawbeenor_answer, packet, PACKET,
      (const uint8_t *b, size_t n, size_t z, uint8_t *s, size_t m, const uint8_t *p, size_t k, uint8_t *r, size_t l),
      (b, n, z, s, m, p, k, r, l))
+WRAP(bawbeenor_answers, burst, BURST,
+     (const uint8_t *b, size_t n, size_t z, uint8_t *s, size_t m, const uint8_t *p, size_t k, const size_t *c, size_t j, uint8_t *r,
+      size_t l),
+     (b, n, z, s, m, p, k, c, j, r, l))
 WRAP(uint8_t, event, EVENT, (const uint8_t *b, size_t n, uint8_t *s, size_t m, uint8_t k, uint8_t e), (b, n, s, m, k, e))
 WRAP(bawbeenor_span, settings, SETTINGS, (const uint8_t *b, size_t n, const uint8_t *s, size_t m, uint8_t e), (b, n, s, m, e))
 WRAP(bawbeenor_lag, delay, DELAY, (const uint8_t *b, size_t n, const uint8_t *s, size_t m, uint8_t e), (b, n, s, m, e))

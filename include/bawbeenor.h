@@ -1,10 +1,11 @@
 /* bawbeenor.h: the signalling side of a listening bridge, for a host in C.
 
    Every call answers every input: there is nothing to test before it. Each is proved to answer what crates/rules/specs/Host.antt
-   says (crates/host), with what the caller owes here:
+   and Bursts.antt say (crates/host), with what the caller owes here:
 
-   - An area goes in as two parameters, where it begins and its length in octets. All of it is the caller's: the library has no
-     memory of its own, keeps no address after a call, and takes nothing from a heap.
+   - An area goes in as two parameters, where it begins and its length in octets; the lengths of a burst's packets as where they
+     begin and how many they are. All of it is the caller's: the library has no memory of its own, keeps no address after a call,
+     and takes nothing from a heap.
    - An area is never NULL, also where its length is 0.
    - A lent area (uint8_t *) overlaps no other area of the same call, and nothing else reads or writes it during the call. Areas
      that are only read (const uint8_t *) may overlap each other, and nothing writes them during the call.
@@ -30,11 +31,13 @@ extern "C" {
 #define BAWBEENOR_SAVED(endpoints) (521 + 80 * (size_t)(endpoints))
 #define BAWBEENOR_SAVED_LONGEST 1801   /* BAWBEENOR_SAVED(BAWBEENOR_ENDPOINTS) */
 #define BAWBEENOR_REPLY 64             /* of a reply area, at least; no reply's payload is longer */
+#define BAWBEENOR_BURST 16             /* packets of a burst, at most */
+#define BAWBEENOR_BURST_REPLY 1024     /* of a burst's reply area, at least: BAWBEENOR_REPLY octets for each of its packets */
 #define BAWBEENOR_SIZE_SMALLEST 48     /* packet sizes */
 #define BAWBEENOR_SIZE_LARGEST 672
 #define BAWBEENOR_PAYLOAD_LONGEST 512  /* of a message */
 
-/* ---- Numbers, in the order in which a call tests: the book 1 to 7, then 8, 9, 12, 10; the cutter 8, 11, 9 */
+/* ---- Numbers, in the order in which a call tests: the book 1 to 7, then 8, 13, 9, 12, 10; the cutter 8, 11, 9 */
 
 enum {
     BAWBEENOR_DONE = 0,
@@ -46,10 +49,12 @@ enum {
     BAWBEENOR_BOOK_KIND = 6,       /* a kind octet */
     BAWBEENOR_BOOK_LIST = 7,       /* a capability list above 64 octets or that breaks its rules */
     BAWBEENOR_SIZE = 8,            /* packet size is not 48 to 672 */
-    BAWBEENOR_AREA = 9,            /* reply area below 64 octets, or packet area below the packet to be written */
+    BAWBEENOR_AREA = 9,            /* reply area below 64 octets, a burst's below 1,024, or packet area below the packet to be
+                                      written */
     BAWBEENOR_DOES_NOT_APPLY = 10, /* the event or the endpoint asked about does not apply */
     BAWBEENOR_NOT_TO_CUT = 11,     /* no such packet, payload above 512, label above 15, message type above 3, signal above 63 */
-    BAWBEENOR_NOT_LEGAL = 12       /* the saved connection is not legal for this book, or its area too short */
+    BAWBEENOR_NOT_LEGAL = 12,      /* the saved connection is not legal for this book, or its area too short */
+    BAWBEENOR_TOO_MANY = 13        /* more than 16 packets in a burst */
 };
 
 /* ---- The book: 0x48 0x4C 0x42, version 0 1, count; then for each endpoint its SEID, its kind octet, the length of its list of
@@ -83,6 +88,28 @@ typedef struct {
    number. */
 bawbeenor_answer bawbeenor_packet(const uint8_t *book, size_t book_length, size_t size, uint8_t *saved, size_t saved_length,
                                   const uint8_t *packet, size_t packet_length, uint8_t *reply, size_t reply_length);
+
+/* For code that is built against headers of several editions: this one declares bawbeenor_burst. */
+#define BAWBEENOR_BURST_DECLARED 1
+
+typedef struct {
+    uint8_t number;
+    bawbeenor_answer told[BAWBEENOR_BURST]; /* of packet n at told[n], counted from 0; each has the number 0 */
+} bawbeenor_answers;
+
+/* Takes up to 16 packets by one call, as if each were handed to bawbeenor_packet in its turn; the book and the saved connection are
+   judged once. The packets lie one behind the other in `packets`, of `packets_length` octets in all, and lengths[n] is the length
+   of packet n: a length past the end takes the octets that are left, and octets behind the last packet are ignored. The reply's
+   payload of packet n is written at reply + 64 * n, in 64 octets that are packet n's own; the octets behind it stay, and a silent
+   packet leaves all 64. What is told beyond `count` is 0.
+
+   1 to 7, 8, 13 where `count` is above 16, 9 where the reply area is below 1,024 octets however few the packets are, 12. All are
+   given before the first packet is read: a refusal has 0 in all fields but the number. No packets: 0, and nothing changes.
+
+   `packets` and `lengths` are only read. Like any area, neither is NULL, also where `count` is 0. */
+bawbeenor_answers bawbeenor_burst(const uint8_t *book, size_t book_length, size_t size, uint8_t *saved, size_t saved_length,
+                                  const uint8_t *packets, size_t packets_length, const size_t *lengths, size_t count,
+                                  uint8_t *reply, size_t reply_length);
 
 /* ---- The link */
 

@@ -49,6 +49,52 @@ static uint8_t told(size_t length, size_t size, size_t reply_length)
     return bawbeenor_packet(book, length, size, saved, sizeof saved, discover, 2, reply, reply_length).number;
 }
 
+/* Discover as often as a burst takes packets, the last with a length past the end; then the limits. */
+static uint8_t packets[2 * BAWBEENOR_BURST], replies[BAWBEENOR_BURST_REPLY];
+static size_t lengths[BAWBEENOR_BURST + 1];
+
+static bawbeenor_answers burst(size_t length, size_t count, size_t reply_length)
+{
+    return bawbeenor_burst(book, length, 672, saved, sizeof saved, packets, sizeof packets, lengths, count, replies, reply_length);
+}
+
+static bool is_zero(bawbeenor_answer a) { return (a.number | a.label | a.kind | a.signal) == 0 && a.length == 0; }
+
+static void bursts(size_t n)
+{
+    _Static_assert(BAWBEENOR_BURST * BAWBEENOR_REPLY == BAWBEENOR_BURST_REPLY, "64 octets for each packet");
+    for (size_t i = 0; i < BAWBEENOR_BURST; i++) {
+        packets[2 * i] = (uint8_t)(i << 4);
+        packets[2 * i + 1] = 1;
+        lengths[i] = 2;
+    }
+    lengths[3] = 0; /* two empty packets, which are silent, and between them one of six octets */
+    lengths[4] = 6;
+    lengths[5] = 0;
+    lengths[BAWBEENOR_BURST - 1] = 1000;
+    for (size_t i = 0; i < sizeof replies; i++)
+        replies[i] = 0xEE;
+    bawbeenor_answers a = burst(n, BAWBEENOR_BURST, BAWBEENOR_BURST_REPLY);
+    HOLDS(a.number == BAWBEENOR_DONE);
+    for (size_t i = 0; i < BAWBEENOR_BURST; i++) {
+        const uint8_t *slot = replies + BAWBEENOR_REPLY * i;
+        if (i == 3 || i == 5) {
+            HOLDS(is_zero(a.told[i]) && slot[0] == 0xEE && slot[BAWBEENOR_REPLY - 1] == 0xEE);
+        } else if (i == 4) { /* Discover with a payload of four octets is rejected */
+            HOLDS(a.told[i].number == 0 && a.told[i].kind == BAWBEENOR_REJECT && a.told[i].length == 1 && slot[0] == 0x11);
+        } else {
+            HOLDS(a.told[i].kind == BAWBEENOR_ACCEPT && a.told[i].signal == 1 && a.told[i].length == 32);
+            HOLDS(slot[0] == 1 << 2 && slot[1] == 8 && slot[31] == 8 && slot[32] == 0xEE);
+        }
+    }
+    a = burst(n, 1, BAWBEENOR_BURST_REPLY);
+    HOLDS(a.number == BAWBEENOR_DONE && a.told[0].kind == BAWBEENOR_ACCEPT && is_zero(a.told[1]));
+    HOLDS(burst(n, 0, BAWBEENOR_BURST_REPLY).number == BAWBEENOR_DONE);
+    HOLDS(burst(n, 1, BAWBEENOR_BURST_REPLY - 1).number == BAWBEENOR_AREA);
+    a = burst(n, BAWBEENOR_BURST + 1, BAWBEENOR_BURST_REPLY - 1);
+    HOLDS(a.number == BAWBEENOR_TOO_MANY && is_zero(a.told[0]) && is_zero(a.told[BAWBEENOR_BURST - 1]));
+}
+
 int main(void)
 {
     size_t n = make_book(BAWBEENOR_ENDPOINTS, 60);
@@ -75,6 +121,8 @@ int main(void)
     bawbeenor_answer a = bawbeenor_packet(book, n, 672, saved, sizeof saved, discover, 2, reply, sizeof reply);
     HOLDS(a.number == BAWBEENOR_DONE && a.label == 0 && a.kind == BAWBEENOR_ACCEPT && a.signal == 1 && a.length == 32);
     HOLDS(reply[0] == 1 << 2 && reply[1] == 8);
+
+    bursts(n);
 
     HOLDS(bawbeenor_event(book, n, saved, sizeof saved, BAWBEENOR_UP, 0) == BAWBEENOR_DOES_NOT_APPLY);
     HOLDS(bawbeenor_event(book, n, saved, sizeof saved, BAWBEENOR_DOWN, 1) == BAWBEENOR_DOES_NOT_APPLY);

@@ -20,7 +20,7 @@ static uint8_t saved[BAWBEENOR_SAVED_LONGEST];
 static size_t records;              /* of the connection that the last accepted `book` began */
 static size_t size = BAWBEENOR_SIZE_LARGEST;
 static size_t reply_length = BAWBEENOR_REPLY;
-static uint8_t reply[65535];        /* BAWBEENOR_REPLY octets would do: the step `area` asks for more */
+static uint8_t reply[65535];        /* BAWBEENOR_BURST_REPLY octets would do: the step `area` asks for more */
 static uint8_t area[65535];         /* BAWBEENOR_SIZE_LARGEST octets would do: the step `cut` asks for more */
 
 /* ---- Lines and words */
@@ -161,24 +161,57 @@ static void take_book(bool fresh)
 
 /* ---- A packet comes in, and what is to be said goes out in packets of the size */
 
-static void take_packet(void)
+static void send_answer(bawbeenor_answer a, const uint8_t *payload)
 {
-    bawbeenor_answer a = bawbeenor_packet(book, book_length, size, saved, sizeof saved, data, data_length, reply, reply_length);
-    if (a.number != BAWBEENOR_DONE) {
-        printf("refused %u\n", a.number);
-        return;
-    }
     if (a.kind == BAWBEENOR_SILENT) {
         puts("silent");
         return;
     }
     size_t count = bawbeenor_packets(size, a.length);
     for (size_t i = 0; i < count; i++) {
-        bawbeenor_written w = bawbeenor_cut(size, a.label, a.kind, a.signal, reply, a.length, i, area, size);
+        bawbeenor_written w = bawbeenor_cut(size, a.label, a.kind, a.signal, payload, a.length, i, area, size);
         putchar('>');
         print_octets(" ", area, w.length);
         putchar('\n');
     }
+}
+
+static void take_packet(void)
+{
+    bawbeenor_answer a = bawbeenor_packet(book, book_length, size, saved, sizeof saved, data, data_length, reply, reply_length);
+    if (a.number != BAWBEENOR_DONE)
+        printf("refused %u\n", a.number);
+    else
+        send_answer(a, reply);
+}
+
+/* ---- What the radio board held comes in at once: burst / HEX.. / HEX.. */
+
+enum { MOST_PACKETS = 40 }; /* more than a burst may have, so that the refusal can be seen */
+
+static size_t lengths[MOST_PACKETS];
+
+static bool take_burst(void)
+{
+    size_t count = 0;
+    data_length = 0;
+    for (size_t i = 1; i < word_count; i++)
+        if (is(i, "/")) {
+            if (count == MOST_PACKETS)
+                return false;
+            lengths[count++] = 0;
+        } else {
+            if (count == 0 || !add_octet(words[i]) || words[i][2] != '\0')
+                return false;
+            lengths[count - 1]++;
+        }
+    bawbeenor_answers a = bawbeenor_burst(book, book_length, size, saved, sizeof saved, data, data_length, lengths, count, reply,
+                                          reply_length);
+    printf("burst %u\n", a.number);
+    if (a.number == BAWBEENOR_DONE)
+        for (size_t n = 0; n < count; n++)
+            send_answer(a.told[n], reply + BAWBEENOR_REPLY * n);
+    return true;
 }
 
 static void take_event(uint8_t kind, uint8_t seid)
@@ -332,7 +365,9 @@ static bool step(void)
         if (!octets(1))
             return false;
         take_packet();
-    } else if (is(0, "up") && word_count == 1)
+    } else if (is(0, "burst"))
+        return take_burst();
+    else if (is(0, "up") && word_count == 1)
         take_event(BAWBEENOR_UP, 0);
     else if (is(0, "down") && word_count == 2 && octet(1, &seid))
         take_event(BAWBEENOR_DOWN, seid);

@@ -1,4 +1,4 @@
-//! The host's calls: document 01, "What the host is told", with the order of the refusals. A refusal changes
+//! The host's calls: document 01, "What the host is told", and Q-1, with the order of the refusals. A refusal changes
 //! nothing.
 
 use crate::book::{Book, OurSeid};
@@ -10,6 +10,9 @@ use crate::packets::{self, take, Flaw, Message, Taken, LONGEST_PAYLOAD};
 pub const SMALLEST_SIZE: usize = 48;
 pub const LARGEST_SIZE: usize = 672;
 pub const SMALLEST_REPLY_AREA: usize = 64;
+/// A burst's packets and its reply area, which has 64 octets for each of the most packets: Q-1.
+pub const MOST_PACKETS: usize = 16;
+pub const SMALLEST_BURST_AREA: usize = 1024;
 
 /// Why a packet has no reply.
 #[derive(Clone, Copy, PartialEq, Eq, PartialOrd, Ord, Debug)]
@@ -20,8 +23,8 @@ pub enum Silence {
     Abort(AbortFlaw),
 }
 
-pub enum PacketAnswer {
-    Refused(Number),
+/// What the host is told about a packet of a call that was not refused.
+pub enum Told {
     Silent(Silence),
     Reply(Message),
 }
@@ -44,32 +47,61 @@ pub fn packet(
     connection: &mut Connection,
     packet: &[u8],
     reply_area: usize,
-) -> PacketAnswer {
+) -> Result<Told, Number> {
     if !size_is_good(size) {
-        return PacketAnswer::Refused(SIZE);
+        return Err(SIZE);
     }
     if reply_area < SMALLEST_REPLY_AREA {
-        return PacketAnswer::Refused(AREA);
+        return Err(AREA);
     }
     if !connection.is_legal(book) {
-        return PacketAnswer::Refused(NOT_LEGAL);
+        return Err(NOT_LEGAL);
     }
+    Ok(told(book, size, connection, packet))
+}
+
+/// Several packets, one behind the other. Order: 8, 13, 9, 12, all before the first packet is read. The connection is
+/// judged once: no packet makes it illegal, so that none behind it would be refused.
+pub fn burst(
+    book: &Book,
+    size: usize,
+    connection: &mut Connection,
+    packets: &[Vec<u8>],
+    reply_area: usize,
+) -> Result<Vec<Told>, Number> {
+    if !size_is_good(size) {
+        return Err(SIZE);
+    }
+    if packets.len() > MOST_PACKETS {
+        return Err(BURST);
+    }
+    if reply_area < SMALLEST_BURST_AREA {
+        return Err(AREA);
+    }
+    if !connection.is_legal(book) {
+        return Err(NOT_LEGAL);
+    }
+    Ok(packets.iter().map(|packet| told(book, size, connection, packet)).collect())
+}
+
+/// One packet over a legal connection.
+fn told(book: &Book, size: usize, connection: &mut Connection, packet: &[u8]) -> Told {
     let message = match take(&mut connection.gathering, size, packet) {
         Taken::Message(message) => message,
-        Taken::Part => return PacketAnswer::Silent(Silence::Part),
-        Taken::Ended(flaw) => return PacketAnswer::Silent(Silence::Ended(flaw)),
+        Taken::Part => return Told::Silent(Silence::Part),
+        Taken::Ended(flaw) => return Told::Silent(Silence::Ended(flaw)),
     };
     if message.message_type != packets::COMMAND {
-        return PacketAnswer::Silent(Silence::NotACommand);
+        return Told::Silent(Silence::NotACommand);
     }
     let records = connection.records_of_mut(book);
     let (message_type, payload) = match serve(book, records, message.signal, &message.payload) {
         Answer::Accept(payload) => (packets::ACCEPT, payload),
         Answer::Reject(payload) => (packets::REJECT, payload),
         Answer::GeneralReject => (packets::GENERAL_REJECT, Vec::new()),
-        Answer::Silent(flaw) => return PacketAnswer::Silent(Silence::Abort(flaw)),
+        Answer::Silent(flaw) => return Told::Silent(Silence::Abort(flaw)),
     };
-    PacketAnswer::Reply(Message { message_type, payload, ..message })
+    Told::Reply(Message { message_type, payload, ..message })
 }
 
 /// Order: 12, 10.

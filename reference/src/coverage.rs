@@ -1,11 +1,13 @@
 //! What a script reaches, counted: each command's accepts and rejects, each call's refusals, the reasons of silence,
 //! and the states that endpoints entered. What could be reached and was not is shown as 0 and listed at the end.
 
+mod bursts;
+
 use std::cmp::Ordering;
 use std::collections::BTreeMap;
 use std::io::{self, BufRead, Write};
 
-use crate::bridge::{Event, PacketAnswer, Silence};
+use crate::bridge::{Event, Silence, Told};
 use crate::commands::AbortFlaw;
 use crate::endpoints::{Channel, State};
 use crate::input::each_line;
@@ -13,6 +15,7 @@ use crate::numbers::{Number, DONE, NOT_LEGAL};
 use crate::packets::{Flaw, Message, ACCEPT, GENERAL_REJECT};
 use crate::script::{channel_name, state_name};
 use crate::session::{Held, Outcome, Session};
+use bursts::Bursts;
 
 /// Each row's name in its group, in the order in which the table shows them.
 type Row = (&'static str, String);
@@ -28,13 +31,19 @@ pub fn table(input: impl BufRead, out: &mut impl Write) -> io::Result<()> {
         coverage.add(row, 0);
     }
     let mut session = Session::new();
+    let mut bursts = Bursts::new();
     let mut lost = false;
     each_line(input, |line| {
-        let before = standing(&session);
+        let held = session.held.clone();
+        let before = held.as_ref().map_or(Vec::new(), standing);
         let outcome = session.line(line);
-        let after = standing(&session);
+        let after = session.held.as_ref().map_or(Vec::new(), standing);
         coverage.outcome(&outcome);
-        coverage.moves(&before, &after);
+        bursts.line(&mut coverage, line, held, &session, &outcome);
+        if !matches!(outcome, Outcome::Burst(_)) {
+            // A burst's were counted packet by packet.
+            coverage.moves(&before, &after);
+        }
         if let Some(held) = &session.held {
             coverage.area(held, &outcome);
         }
@@ -42,7 +51,7 @@ pub fn table(input: impl BufRead, out: &mut impl Write) -> io::Result<()> {
             coverage.count("questions", "status right after a loss");
         }
         lost = matches!(outcome, Outcome::Event(Event::Lost, DONE));
-        if let Outcome::Packet(PacketAnswer::Reply(reply)) = &outcome {
+        if let Outcome::Packet(Ok(Told::Reply(reply))) = &outcome {
             coverage.reply(reply, before != after);
         }
         Ok(())
@@ -52,9 +61,8 @@ pub fn table(input: impl BufRead, out: &mut impl Write) -> io::Result<()> {
 
 type Standing = Vec<(u8, State, Channel)>;
 
-fn standing(session: &Session) -> Standing {
-    let records = session.held.iter().flat_map(Held::shown);
-    records.map(|record| (record.seid.0, record.state, record.channel)).collect()
+fn standing(held: &Held) -> Standing {
+    held.shown().iter().map(|record| (record.seid.0, record.state, record.channel)).collect()
 }
 
 impl Coverage {
@@ -80,9 +88,10 @@ impl Coverage {
         match outcome {
             Outcome::Book(number) => self.call("book", *number),
             Outcome::Rebook(number) => self.call("rebook", *number),
-            Outcome::Packet(PacketAnswer::Refused(number)) => self.call("packet", *number),
-            Outcome::Packet(PacketAnswer::Silent(silence)) => self.count("silence", reason(*silence)),
-            Outcome::Packet(PacketAnswer::Reply(_)) => self.call("packet", 0),
+            Outcome::Packet(Err(number)) => self.call("packet", *number),
+            Outcome::Packet(Ok(Told::Silent(silence))) => self.count("silence", reason(*silence)),
+            Outcome::Packet(Ok(Told::Reply(_))) => self.call("packet", 0),
+            Outcome::Burst(answer) => self.call("burst", answer.as_ref().err().copied().unwrap_or(0)),
             Outcome::Event(Event::Up, number) => self.call("up", *number),
             Outcome::Event(Event::Down(_), number) => self.call("down", *number),
             Outcome::Event(Event::Lost, number) => self.call("lost", *number),
@@ -115,8 +124,9 @@ impl Coverage {
     /// How the saved count, the book and the records that are shown agree in a call that is given all three.
     fn area(&mut self, held: &Held, outcome: &Outcome) {
         let number = match outcome {
-            Outcome::Packet(PacketAnswer::Refused(number)) | Outcome::Event(_, number) => *number,
-            Outcome::Packet(_) => DONE,
+            Outcome::Event(_, number) => *number,
+            Outcome::Packet(answer) => answer.as_ref().err().copied().unwrap_or(DONE),
+            Outcome::Burst(answer) => answer.as_ref().err().copied().unwrap_or(DONE),
             Outcome::Settings(answer) => answer.as_ref().err().copied().unwrap_or(DONE),
             Outcome::Delay(answer) => answer.err().unwrap_or(DONE),
             Outcome::Status(answer) => answer.err().unwrap_or(DONE),
@@ -222,7 +232,7 @@ fn reason(silence: Silence) -> &'static str {
     }
 }
 
-/// Everything that document 01 lets a script reach.
+/// Everything that document 01 and Q-1 let a script reach.
 fn reachable() -> Vec<Row> {
     let mut rows: Vec<Row> = Vec::new();
     for name in ["understood", "not understood", "blank or comment"] {
@@ -233,6 +243,7 @@ fn reachable() -> Vec<Row> {
         ("book", &[0, 1, 2, 3, 4, 5, 6, 7][..]),
         ("rebook", &[0, 1, 2, 3, 4, 5, 6, 7]),
         ("packet", &[0, 8, 9, 12]),
+        ("burst", &[0, 8, 9, 12, 13]),
         ("up", &[0, 10, 12]),
         ("down", &[0, 10, 12]),
         ("lost", &[0, 12]),
@@ -286,6 +297,7 @@ fn reachable() -> Vec<Row> {
     ] {
         rows.push(("questions", name.to_string()));
     }
+    bursts::reachable(&mut rows);
     rows
 }
 

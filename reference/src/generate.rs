@@ -2,6 +2,7 @@
 //! knows the endpoints' states and mostly chooses steps that are accepted.
 
 mod books;
+mod bursts;
 mod calls;
 mod cuts;
 mod lists;
@@ -15,7 +16,9 @@ use std::collections::VecDeque;
 use std::io::{self, Write};
 
 use crate::book::{Entry, OurSeid, MOST_ENTRIES};
-use crate::bridge::{size_is_good, Event, SMALLEST_REPLY_AREA, SMALLEST_SIZE};
+use crate::bridge::{
+    size_is_good, Event, MOST_PACKETS, SMALLEST_BURST_AREA, SMALLEST_REPLY_AREA, SMALLEST_SIZE,
+};
 use crate::commands::DISCOVER;
 use crate::endpoints::{Channel, Record};
 use crate::numbers::DONE;
@@ -23,6 +26,7 @@ use crate::packets::{Gathering, Message, CONTINUE};
 use crate::rng::Rng;
 use crate::script::Step;
 use crate::session::{Held, Outcome, Session};
+use payloads::Command;
 use rare::Seen;
 
 const LONG_ROW: u8 = 20;
@@ -51,15 +55,18 @@ pub fn script(seed: u64, count: u64, out: &mut impl Write) -> io::Result<()> {
     Ok(())
 }
 
-/// The first book, before which two more steps are not understood; a packet that is answered at the size and the area of
-/// the start, and not at smaller ones; and a book that reaches past its only record, where the saved area is still zero.
+/// The first book, before which three more steps are not understood; a packet that is answered at the size and the area
+/// of the start, and not at smaller ones; a burst, for which that area is too small; and a book that reaches past its
+/// only record, where the saved area is still zero.
 fn opening(rng: &mut Rng) -> VecDeque<Step> {
     let (book, longer) = books::growing(rng);
     VecDeque::from([
         Step::Status(OurSeid(1)),
         Step::Count(1),
+        Step::Burst(vec![vec![0x10, DISCOVER]]),
         Step::Book(book),
         Step::Packet([&[0x10, DISCOVER][..], &[0; 500]].concat()),
+        Step::Burst(Vec::new()),
         Step::Rebook(longer),
         Step::Count(2),
         Step::Status(OurSeid(2)),
@@ -85,9 +92,24 @@ fn shorter_book(rng: &mut Rng, held: &Held) -> [Step; 6] {
     [shorter, Step::Count(front as u8), Step::Event(event), first, second, Step::Status(seid)]
 }
 
+/// The packets of a message, with one thing wrong now and then.
+fn packets_of(rng: &mut Rng, held: &Held, command: Command, size: usize) -> Vec<Vec<u8>> {
+    let message = payloads::message(rng, command, size);
+    let mut packets = parts::packets(rng, size, &message);
+    if rng.chance(if packets.len() == 1 { 40 } else { 350 }) {
+        let (signal, payload) = payloads::command(rng, held);
+        let label = rng.octet() & 0x0F;
+        let other = Message { label, message_type: 0, signal, payload };
+        let other = parts::single(rng, &other);
+        parts::disturb(rng, size, &mut packets, other);
+    }
+    packets
+}
+
 #[derive(Clone, Copy)]
 enum Choice {
     Message,
+    Burst,
     Event,
     States,
     Settings,
@@ -112,8 +134,9 @@ enum Choice {
 }
 
 /// How often each kind of step is chosen, by weight.
-const CHOICES: [(Choice, usize); 22] = [
+const CHOICES: [(Choice, usize); 23] = [
     (Choice::Message, 500),
+    (Choice::Burst, 110),
     (Choice::Event, 80),
     (Choice::States, 60),
     (Choice::Settings, 40),
@@ -198,10 +221,15 @@ impl Generator {
         };
         let size_fits = size_is_good(self.session.size.into());
         let area_fits = usize::from(self.session.area) >= SMALLEST_REPLY_AREA;
+        let burst_fits = usize::from(self.session.area) >= SMALLEST_BURST_AREA;
         let legal = held.connection.is_legal(&held.book);
-        // Two or three reasons to refuse a packet at once show which counts first.
+        // Two or three reasons to refuse a packet or a burst at once show which counts first.
         if !(size_fits && area_fits && legal) && self.rng.chance(140) {
-            return if self.rng.chance(500) { Step::Size(47) } else { Step::Area(63) };
+            return if self.rng.chance(500) {
+                Step::Size(47)
+            } else {
+                Step::Area(self.rng.pick(&[63, 63, 1023]))
+            };
         }
         if (!self.in_long_row() || !legal) && self.rng.chance(600) {
             if let Some(step) = self.plan.pop_front() {
@@ -212,10 +240,17 @@ impl Generator {
             return Step::Size(self.good_size());
         }
         if !area_fits && self.rng.chance(400) {
-            return Step::Area(self.rng.pick(&[64, 64, 65, 100, 65535]));
+            return Step::Area(self.rng.pick(&[64, 64, 65, 100, 1023, 1024, 65535]));
+        }
+        if burst_fits && !self.in_long_row() && self.rng.chance(25) {
+            // Packets are answered in small areas too.
+            return Step::Area(bursts::small_area(&mut self.rng));
         }
         if !legal && self.rng.chance(80) {
             return calls::any_call(&mut self.rng, held);
+        }
+        if !legal && self.rng.chance(30) {
+            return self.burst();
         }
         // What a plan breaks, it mends.
         if !legal && self.plan.is_empty() && self.rng.chance(300) {
@@ -233,6 +268,9 @@ impl Generator {
         }
         if underway && !self.in_long_row() && area_fits && self.rng.chance(25) {
             return Step::Area(63);
+        }
+        if !self.row.is_empty() && self.rng.chance(if burst_fits { 170 } else { 20 }) {
+            return self.burst();
         }
         if !self.row.is_empty() && self.rng.chance(goes_on) {
             // A refused packet is sent again: it did not end the gathering.
@@ -258,6 +296,7 @@ impl Generator {
         let weights = CHOICES.map(|(_, weight)| weight);
         match CHOICES[rng.weighted(&weights)].0 {
             Choice::Message => self.message(),
+            Choice::Burst => self.burst_or_its_area(),
             Choice::Event => match calls::event(rng, held) {
                 Some(event) => Step::Event(event),
                 None => self.message(),
@@ -282,7 +321,7 @@ impl Generator {
             }
             Choice::DamagedBook => Step::Book(books::damaged(rng)),
             Choice::Size => Step::Size(self.any_size()),
-            Choice::Area => Step::Area(rng.pick(&[0, 1, 63, 63, 63, 64, 65, 65535])),
+            Choice::Area => Step::Area(rng.pick(&[0, 1, 63, 63, 63, 64, 65, 1023, 1024, 65535])),
             Choice::Cut => cuts::cut(rng),
             Choice::Noise => Step::Packet(parts::noise(rng, size)),
             Choice::AtTheSize => Step::Packet(parts::at_the_size(rng, size)),
@@ -302,6 +341,7 @@ impl Generator {
             _ => {
                 let event = rng.pick(&[Event::Up, Event::Down(OurSeid(1)), Event::Lost]);
                 let steps = [
+                    Step::Burst(vec![vec![0x10, 0x01]]),
                     Step::States,
                     Step::Event(event),
                     Step::Settings(OurSeid(1)),
@@ -398,17 +438,54 @@ impl Generator {
             return Step::Book(books::valid(rng));
         };
         let command = self.seen.rarest(rng, held);
-        let message = payloads::message(rng, command, size);
-        let mut packets = parts::packets(rng, size, &message);
-        if rng.chance(if packets.len() == 1 { 40 } else { 350 }) {
-            let (signal, payload) = payloads::command(rng, held);
-            let label = rng.octet() & 0x0F;
-            let other = Message { label, message_type: 0, signal, payload };
-            let other = parts::single(rng, &other);
-            parts::disturb(rng, size, &mut packets, other);
-        }
+        let packets = packets_of(rng, held, command, size);
         self.goes_first(packets);
         Step::Packet(self.row.pop_front().unwrap_or_default())
+    }
+
+    /// A burst, or mostly first the area that its replies need.
+    fn burst_or_its_area(&mut self) -> Step {
+        if usize::from(self.session.area) < SMALLEST_BURST_AREA && self.rng.chance(700) {
+            return Step::Area(bursts::area(&mut self.rng));
+        }
+        self.burst()
+    }
+
+    /// A burst: it goes on with the row, then come messages for the endpoints as they will stand. What is left over of the
+    /// last one comes next.
+    fn burst(&mut self) -> Step {
+        let size = self.fitting_size();
+        let Some(held) = &self.session.held else {
+            return Step::Burst(Vec::new());
+        };
+        let rng = &mut self.rng;
+        let mut row = self.row.clone();
+        let mut burst = bursts::Burst::new(held, size);
+        // Some are about one endpoint, which goes through several states.
+        let only = rng.chance(400).then(|| rng.below(held.book.entries.len()));
+        let count = bursts::count(rng);
+        while burst.packets.len() < count {
+            let packet = match row.pop_front() {
+                Some(packet) => packet,
+                None if rng.chance(30) => Vec::new(),
+                None => {
+                    let command = match only {
+                        Some(place) => payloads::on_its_way(rng, &burst.ahead, place),
+                        None => self.seen.rarest(rng, &burst.ahead),
+                    };
+                    row.extend(packets_of(rng, &burst.ahead, command, size));
+                    continue;
+                }
+            };
+            burst.push(rng, packet);
+        }
+        let area_fits = usize::from(self.session.area) >= SMALLEST_BURST_AREA;
+        let legal = held.connection.is_legal(&held.book);
+        if size_is_good(self.session.size.into()) && count <= MOST_PACKETS && area_fits && legal {
+            // The packets of a refused burst come again: it did not end the gathering.
+            self.row = row;
+        }
+        Step::Burst(burst.packets)
     }
 
     fn good_size(&mut self) -> u16 {

@@ -1,4 +1,5 @@
-//! A reference for document 01: the acceptor, run by scripts (DESIGN, "Replay: the technician's program").
+//! A reference for document 01 and Q-1 of document 02: the acceptor, run by scripts (DESIGN, "Replay: the technician's
+//! program").
 //!
 //! `reference [FILE..]` answers each script, or standard input; each FILE is a script of its own.
 //! `reference --generate SEED COUNT` writes a random script.

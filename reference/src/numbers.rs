@@ -1,4 +1,4 @@
-//! The numbers that the host is told: document 01, "What the host is told".
+//! The numbers that the host is told: document 01, "What the host is told", continued by document 02.
 
 pub type Number = u8;
 
@@ -15,3 +15,5 @@ pub const AREA: Number = 9;
 pub const DOES_NOT_APPLY: Number = 10;
 pub const CUT: Number = 11;
 pub const NOT_LEGAL: Number = 12;
+///
+pub const BURST: Number = 13;

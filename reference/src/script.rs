@@ -1,4 +1,5 @@
-//! The lines of a script: DESIGN, "Replay: the technician's program". A line is blank, a step, or not understood.
+//! The lines of a script: DESIGN, "Replay: the technician's program", with the steps that REQUESTS adds. A line is
+//! blank, a step, or not understood.
 
 use crate::book::{OurSeid, LONGEST_LIST};
 use crate::bridge::Event;
@@ -7,6 +8,8 @@ use crate::packets::{Gathering, Message, LONGEST_PAYLOAD};
 
 /// The longest line that is understood, without its newline.
 pub const LONGEST_LINE: usize = 8191;
+/// The most packets of a burst that are understood: more than a burst may have, so that 13 can be seen.
+pub const MOST_WRITTEN: usize = 40;
 
 pub enum Line {
     Blank,
@@ -21,6 +24,7 @@ pub enum Step {
     Size(u16),
     Area(u16),
     Packet(Vec<u8>),
+    Burst(Vec<Vec<u8>>),
     Event(Event),
     Settings(OurSeid),
     Delay(OurSeid),
@@ -73,6 +77,7 @@ fn step(words: &[&[u8]]) -> Option<Step> {
         [b"size", size] => Step::Size(number(size)?),
         [b"area", area] => Step::Area(number(area)?),
         [b"packet", hex @ ..] => Step::Packet(octets(hex)?),
+        [b"burst", words @ ..] => Step::Burst(packets(words)?),
         [b"up"] => Step::Event(Event::Up),
         [b"down", seid] => Step::Event(Event::Down(OurSeid(small(seid)?))),
         [b"lost"] => Step::Event(Event::Lost),
@@ -138,6 +143,14 @@ fn small(word: &[u8]) -> Option<u8> {
 
 fn octets(words: &[&[u8]]) -> Option<Vec<u8>> {
     words.iter().map(|word| octet(word)).collect()
+}
+
+/// The word `/` begins each packet, the first one too.
+fn packets(words: &[&[u8]]) -> Option<Vec<Vec<u8>>> {
+    let mut pieces = words.split(|word| *word == b"/");
+    pieces.next().filter(|before| before.is_empty())?;
+    let packets: Vec<Vec<u8>> = pieces.map(octets).collect::<Option<_>>()?;
+    (packets.len() <= MOST_WRITTEN).then_some(packets)
 }
 
 fn octet(word: &[u8]) -> Option<u8> {

@@ -3,7 +3,7 @@
 use std::io::{self, Write};
 
 use crate::book::{self, Book};
-use crate::bridge::{self, Event, PacketAnswer, Status, NO_STATUS};
+use crate::bridge::{self, Event, Status, Told, NO_STATUS};
 use crate::endpoints::{Connection, Record};
 use crate::numbers::{Number, DONE};
 use crate::packets::packet_count;
@@ -18,7 +18,8 @@ pub enum Outcome {
     Quiet,
     Book(Number),
     Rebook(Number),
-    Packet(PacketAnswer),
+    Packet(Result<Told, Number>),
+    Burst(Result<Vec<Told>, Number>),
     Event(Event, Number),
     Settings(Result<Vec<u8>, Number>),
     Delay(Result<Option<u16>, Number>),
@@ -28,6 +29,7 @@ pub enum Outcome {
 }
 
 /// The book in use and the connection saved for it, or for the book before a `rebook`.
+#[derive(Clone)]
 pub struct Held {
     pub book: Book,
     pub connection: Connection,
@@ -98,6 +100,7 @@ impl Held {
         match step {
             Step::Rebook(octets) => Outcome::Rebook(self.rebook(&octets)),
             Step::Packet(octets) => Outcome::Packet(bridge::packet(book, size, connection, &octets, area)),
+            Step::Burst(packets) => Outcome::Burst(bridge::burst(book, size, connection, &packets, area)),
             Step::Event(event) => Outcome::Event(event, bridge::event(book, connection, event)),
             Step::Settings(seid) => {
                 Outcome::Settings(bridge::settings(book, connection, seid).map(<[u8]>::to_vec))
@@ -156,15 +159,13 @@ impl Outcome {
             Outcome::Skipped | Outcome::Quiet => Ok(()),
             Outcome::NotUnderstood => writeln!(out, "line {line_number} not understood"),
             Outcome::Book(number) | Outcome::Rebook(number) => writeln!(out, "book {number}"),
-            Outcome::Packet(PacketAnswer::Refused(number)) => writeln!(out, "refused {number}"),
-            Outcome::Packet(PacketAnswer::Silent(_)) => writeln!(out, "silent"),
-            Outcome::Packet(PacketAnswer::Reply(message)) => {
-                for number in 0..packet_count(size, message.payload.len()) {
-                    let packet = crate::packets::packet(size, message, number);
-                    writeln!(out, ">{}", apart(&packet))?;
-                }
-                Ok(())
+            Outcome::Packet(Ok(told)) => write_told(out, told, size),
+            Outcome::Packet(Err(number)) => writeln!(out, "refused {number}"),
+            Outcome::Burst(Ok(packets)) => {
+                writeln!(out, "burst 0")?;
+                packets.iter().try_for_each(|told| write_told(out, told, size))
             }
+            Outcome::Burst(Err(number)) => writeln!(out, "burst {number}"),
             Outcome::Event(_, number) => writeln!(out, "event {number}"),
             Outcome::Settings(Ok(octets)) => writeln!(out, "settings 0{}", apart(octets)),
             Outcome::Settings(Err(number)) => writeln!(out, "settings {number}"),
@@ -179,6 +180,17 @@ impl Outcome {
             Outcome::Cut(Ok(octets)) => writeln!(out, "cut 0{}", apart(octets)),
             Outcome::Cut(Err(number)) => writeln!(out, "cut {number}"),
         }
+    }
+}
+
+/// A packet's lines: the packets of its reply, or that there is none.
+fn write_told(out: &mut impl Write, told: &Told, size: usize) -> io::Result<()> {
+    match told {
+        Told::Silent(_) => writeln!(out, "silent"),
+        Told::Reply(message) => (0..packet_count(size, message.payload.len())).try_for_each(|number| {
+            let packet = crate::packets::packet(size, message, number);
+            writeln!(out, ">{}", apart(&packet))
+        }),
     }
 }
 

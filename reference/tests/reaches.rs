@@ -1,4 +1,4 @@
-//! A random script reaches everything that document 01 lets a script reach.
+//! A random script reaches everything that document 01 and Q-1 let a script reach.
 
 mod common;
 

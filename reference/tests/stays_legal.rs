@@ -24,7 +24,7 @@ fn no_call_makes_a_connection_illegal() {
         for line in answers.lines() {
             let mut words = line.split(' ');
             let call = words.next().expect("an answer has a word");
-            let refused = ["refused", "event", "settings", "delay", "status"].contains(&call);
+            let refused = ["refused", "burst", "event", "settings", "delay", "status"].contains(&call);
             assert!(!(refused && words.next() == Some("12")), "seed {seed}: {line}");
         }
     }

@@ -10,7 +10,9 @@ use Rattle.rules.specs.declared.Piece.{Piece}
 use Rattle.rules.specs.declared.Standing.{Standing}
 use Rattle.rules.specs.declared.Heard.{Heard}
 use Rattle.rules.specs.declared.Told.{Told}
-use Rattle.rules.specs.Calls.{Freshens, Takes, Happens, Cuts}
+use Rattle.rules.specs.Bursts.{BurstAnswered}
+use Rattle.rules.specs.declared.Burst.{Burst}
+use Rattle.rules.specs.Calls.{Freshens, Takes, TakesAll, Happens, Cuts}
 
 pub check-unique : (book : List ℕ) {n m : ℕ} → n ≡ checkCall book → m ≡ checkCall book → n ≡ m
 check-unique book p q = p ∙ sym q
@@ -27,6 +29,15 @@ packet-unique book size saved packet reply p q =
     ( ap (λ (a : Answered). a .told) e,
       ap (λ (a : Answered). a .saved) e,
       ap (λ (a : Answered). a .reply) e)
+
+pub burst-unique : (book : List ℕ) (size : ℕ) (saved octets lengths reply : List ℕ) {t u : Burst} {s s′ r r′ : List ℕ}
+  → TakesAll book size saved octets lengths reply t s r → TakesAll book size saved octets lengths reply u s′ r′
+  → (t ≡ u) × (s ≡ s′) × (r ≡ r′)
+burst-unique book size saved octets lengths reply p q =
+    let e = p ∙ sym q in
+    ( ap (λ (a : BurstAnswered). a .burst) e,
+      ap (λ (a : BurstAnswered). a .saved) e,
+      ap (λ (a : BurstAnswered). a .reply) e)
 
 pub event-unique : (book saved : List ℕ) (e : Event) {n m : ℕ} {s t : List ℕ} → Happens book saved e n s
   → Happens book saved e m t → (n ≡ m) × (s ≡ t)

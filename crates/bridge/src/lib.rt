@@ -1,6 +1,8 @@
 // The public calls. None asks anything of its caller: every book, size, saved connection, packet and area gets an answer, and a
-// refusal leaves every octet of every lent area. The numbers are document 01's: 1 to 7 the book, 8 the packet size, 9 an area too
-// short, 10 an event or a question that does not apply, 11 a message that is not to be cut, 12 the saved connection, 0 done.
+// refusal leaves every octet of every lent area. The numbers are those of documents 01 and 02: 1 to 7 the book, 8 the packet
+// size, 9 an area too short, 10 an event or a question that does not apply, 11 a message that is not to be cut, 12 the saved
+// connection, 13 a burst of more than 16 packets, 0 done.
+use rules::Burst;
 use rules::Event;
 use rules::Heard;
 use rules::OurSeid;
@@ -10,7 +12,7 @@ use rules::Told;
 
 ghost use mathlib.Core.Path.{_≡_};
 ghost use Rattle.rules.specs.Host.{checkCall, settingsCall, delayCall, statusCall, packetsCall};
-ghost use Rattle.rules.specs.Calls.{Freshens, Takes, Happens, Cuts};
+ghost use Rattle.rules.specs.Calls.{Freshens, Takes, TakesAll, Happens, Cuts};
 
 // Whether a book is right: 0, or its number.
 pub fn check(book: &[u8]) -> u8
@@ -36,6 +38,19 @@ pub fn packet(book: &[u8], size: usize, saved: &mut [u8], packet: &[u8], reply: 
         return bridge_packet::nothing(number);
     }
     bridge_packet::take(book, size, saved, packet, reply)
+}
+
+// Takes up to 16 packets, which lie one behind the other in `octets`; `lengths` has the length of each. The reply's payload of
+// each is at the front of its own 64 octets of `reply`, of which 1,024 octets are asked for.
+pub fn burst(book: &[u8], size: usize, saved: &mut [u8], octets: &[u8], lengths: &[usize], reply: &mut [u8]) -> Burst
+    ensures { λ r. ⌜ TakesAll (now (book .entry)) size (now (saved .entry)) (now (octets .entry)) (now (lengths .entry))
+        (now (reply .entry)) r (now (saved .exit)) (now (reply .exit)) ⌝ }
+{
+    let number = bridge_refusals::burst_refusal(book, size, saved, lengths, reply);
+    if number != 0 {
+        return bridge_burst::none_told(number);
+    }
+    bridge_burst::take_all(book, size, saved, octets, lengths, reply)
 }
 
 // Takes a link event: the awaited channel is up, the channel of one of our SEIDs is down, the link is lost.

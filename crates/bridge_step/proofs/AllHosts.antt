@@ -2,7 +2,7 @@
 -- step of a sequence has them, so by induction a host's answers and areas are those of the definitions, and what is proved of
 -- these is carried over.
 use Prim.Native.Nat.{ℕ}
-use mathlib.Core.Path.{_≡_, refl, sym, ap, _∙_, subst}
+use mathlib.Core.Path.{_≡_, refl, sym, ap, _∙_, subst, subst₂}
 use mathlib.Core.List.{List, [], _∷_, map}
 use mathlib.Core.Bool.{true, false}
 use mathlib.Core.Option.{none, some}
@@ -15,13 +15,17 @@ use Rattle.rules.specs.Saved.{connectionIn, savedRight}
 use Rattle.rules.specs.Host.{Kept, nothingSaid, Answered, packetCall}
 use Rattle.rules.specs.Sessions
 use Rattle.rules.specs.Sessions.{check, fresh, packet, event, settings, delay, packets, cut, number, told, shown, heard, counted}
-use Rattle.rules.specs.Sessions.{cutOff, Done, keeping, answered, call, answers, after, stands, status}
+use Rattle.rules.specs.Sessions.{cutOff, Done, keeping, answered, call, answers, after, stands, status, burst, toldEach}
+use Rattle.rules.specs.Sessions.{answeredEach}
+use Rattle.rules.specs.Bursts.{packetsIn, filled, BurstAnswered, burstCall}
 use Rattle.rules.specs.Listed.{EachListed}
 use Rattle.rules.specs.Moves.{shifts, shiftsIn, StoppedSeen}
 use Rattle.rules.specs.Alike.{alike, restrained, Begins, begun, lost, cleared, compared}
 use Rattle.rules.specs.declared.State.the-variants.{Idle}
 use Rattle.rules.specs.declared.Event.the-variants.{Lost}
 use Rattle.rules.specs.declared.Told.{Told}
+use Rattle.rules.specs.declared.Burst.{Burst}
+use Rattle.rules.specs.OneByOne.{packetCalls, slotAnswers}
 use Rattle.rules.proofs.LentAreas.{front-read}
 use Rattle.rules.proofs.SavedStaysRight.{always-legal}
 use Rattle.rules.proofs.Never12.{none-answers-12}
@@ -30,19 +34,25 @@ use Rattle.rules.proofs.EveryAnswer.{all-answers}
 use Rattle.rules.proofs.Seen.{idle-after, packet-unmoved}
 use Rattle.rules.proofs.StoppedSeen.{packet-stopped}
 use Rattle.rules.proofs.Quiet.{quiet}
+use Rattle.rules.proofs.Refused.{burst-taken}
+use Rattle.rules.proofs.OneByOne.{one-by-one}
 use Rattle.bridge_step.specs.declared.Call.the-variants as Call
 use Rattle.bridge_step.specs.declared.Answer.{Answer}
 use Rattle.bridge_step.specs.declared.Answer.the-variants as Answer
-use Rattle.bridge_step.specs.Steps.{callBy, answerIn, areaAfter, roomAfter, Exit, exitOf, Steps}
-use Rattle.bridge_step.specs.Hosts.{Asked, callOf, askedOf, readBy, Runs, ended, goes, Defined, Legal, Indistinct}
+use Rattle.bridge_step.specs.declared.Given.{Given}
+use Rattle.bridge_step.specs.Steps.{callBy, answerIn, eachIn, areaAfter, roomAfter, Exit, exitOf, Steps}
+use Rattle.bridge_step.specs.Hosts.{Asked, callOf, askedOf, readWith, readBy, Runs, ended, goes, Defined, Legal, Indistinct}
+use Rattle.bridge_step.specs.Hosts.{BurstRuns}
 
 -- ---- One step
 
 -- what the host reads of a step is what the definitions answer
-answer-read : (a : Sessions.Answer) (area room : List ℕ) → readBy (answerIn a) (areaAfter a area) (roomAfter a room) ≡ a
-unfolding readBy answerIn areaAfter roomAfter
+answer-read : (a : Sessions.Answer) (area room : List ℕ)
+  → readWith (answerIn a) (eachIn a) (areaAfter a area) (roomAfter a room) ≡ a
+unfolding readWith answerIn eachIn areaAfter roomAfter
 answer-read (number n) area room = refl
 answer-read (told t reply) area room = refl
+answer-read (toldEach b reply) area room = refl
 answer-read (shown s) area room =
     ap (λ (l : List ℕ). shown (record { number = s .number; part = l })) (front-read (s .part) room)
 answer-read (heard h) area room = refl
@@ -50,13 +60,13 @@ answer-read (stands t) area room = refl
 answer-read (counted n) area room = refl
 answer-read (cutOff c) area room = refl
 
-pub made : (book saved : List ℕ) (k : Asked) (a : Answer) (next area′ room′ : List ℕ)
-  → Steps book saved (k .call) (k .input) (k .area) (k .room) a next area′ room′
-  → _≡_ {A = Done} (record { answer = readBy a area′ room′; saved = next }) (call book saved (callOf k))
+pub made : (book saved : List ℕ) (k : Asked) (g : Given) (next area′ room′ : List ℕ)
+  → Steps book saved (k .call) (k .input) (k .lengths) (k .area) (k .room) g next area′ room′
+  → _≡_ {A = Done} (record { answer = readBy g area′ room′; saved = next }) (call book saved (callOf k))
 unfolding callOf exitOf
-made book saved k a next area′ room′ e =
+made book saved k g next area′ room′ e =
     let d = call book saved (callOf k) in
-    ap (λ (x : Exit). record { answer = readBy (x .answer) (x .area) (x .room); saved = x .saved }) e
+    ap (λ (x : Exit). record { answer = readBy (x .given) (x .area) (x .room); saved = x .saved }) e
     ∙ ap (λ (x : Sessions.Answer). record { answer = x; saved = d .saved }) (answer-read (d .answer) (k .area) (k .room))
 
 -- every call of a sequence is a step
@@ -65,6 +75,7 @@ unfolding callOf askedOf callBy
 any-call room check = refl
 any-call room fresh = refl
 any-call room (packet size p reply) = refl
+any-call room (burst size octets lengths reply) = refl
 any-call room (event e) = refl
 any-call room (settings s) = refl
 any-call room (delay s) = refl
@@ -73,13 +84,13 @@ any-call room (packets size n) = refl
 any-call room (cut size m k area) = refl
 
 -- two answers that both meet the contract, with the lent areas at exit, are equal
-pub step-unique : (book saved : List ℕ) (k : Asked) {a b : Answer} {s t area area′ room room′ : List ℕ}
-  → Steps book saved (k .call) (k .input) (k .area) (k .room) a s area room
-  → Steps book saved (k .call) (k .input) (k .area) (k .room) b t area′ room′
-  → (a ≡ b) × (s ≡ t) × (area ≡ area′) × (room ≡ room′)
+pub step-unique : (book saved : List ℕ) (k : Asked) {g h : Given} {s t area area′ room room′ : List ℕ}
+  → Steps book saved (k .call) (k .input) (k .lengths) (k .area) (k .room) g s area room
+  → Steps book saved (k .call) (k .input) (k .lengths) (k .area) (k .room) h t area′ room′
+  → (g ≡ h) × (s ≡ t) × (area ≡ area′) × (room ≡ room′)
 step-unique book saved k p q =
     let e = p ∙ sym q in
-    ( ap (λ (x : Exit). x .answer) e,
+    ( ap (λ (x : Exit). x .given) e,
       ap (λ (x : Exit). x .saved) e,
       ap (λ (x : Exit). x .area) e,
       ap (λ (x : Exit). x .room) e)
@@ -90,8 +101,8 @@ pub defined : (book saved : List ℕ) (asks : List Asked) (said : List Sessions.
   → Runs book saved asks said last → Defined book saved (map callOf asks) said last
 unfolding answers after
 defined book saved _ _ _ (ended _) = record { told = refl; left = refl }
-defined book saved _ _ _ (goes _ k a next area′ room′ more said last step rest) =
-    let e = made book saved k a next area′ room′ step in
+defined book saved _ _ _ (goes _ k g next area′ room′ more said last step rest) =
+    let e = made book saved k g next area′ room′ step in
     let d = defined book next more said last rest in
     let there = ap (λ (x : Done). x .saved) e in
     record {
@@ -106,6 +117,7 @@ defined book saved _ _ _ (goes _ k a next area′ room′ more said last step re
 numberBy : Answer → ℕ
 numberBy (Answer.Number n) = n
 numberBy (Answer.Told t) = 0
+numberBy (Answer.Burst n) = n
 numberBy (Answer.Shown n size) = 0
 numberBy (Answer.Heard h) = 0
 numberBy (Answer.Stands t) = 0
@@ -113,17 +125,19 @@ numberBy (Answer.Counted n) = 0
 numberBy (Answer.CutOff piece) = 0
 
 keptIn : Exit → Kept
-keptIn x = record { number = numberBy (x .answer); saved = x .saved }
+keptIn x = record { number = numberBy (x .given .answer); saved = x .saved }
 
-pub fresh-begins : (book past input area room s area′ room′ : List ℕ)
-  → Steps book past Call.Fresh input area room (Answer.Number 0) s area′ room′ → Begins book s
+pub fresh-begins : (book past input lengths area room : List ℕ) (each : List Told) (s area′ room′ : List ℕ)
+  → Steps book past Call.Fresh input lengths area room (record { answer = Answer.Number 0; told = each }) s area′ room′
+  → Begins book s
 unfolding exitOf callBy call keeping answerIn keptIn numberBy
-fresh-begins book past input area room s area′ room′ e = begun past (sym (ap keptIn e))
+fresh-begins book past input lengths area room each s area′ room′ e = begun past (sym (ap keptIn e))
 
-pub lost-begins : (book past input area room s area′ room′ : List ℕ)
-  → Steps book past (Call.Event Lost) input area room (Answer.Number 0) s area′ room′ → Begins book s
+pub lost-begins : (book past input lengths area room : List ℕ) (each : List Told) (s area′ room′ : List ℕ)
+  → Steps book past (Call.Event Lost) input lengths area room (record { answer = Answer.Number 0; told = each }) s area′ room′
+  → Begins book s
 unfolding exitOf callBy call keeping answerIn keptIn numberBy
-lost-begins book past input area room s area′ room′ e = lost past (sym (ap keptIn e))
+lost-begins book past input lengths area room each s area′ room′ e = lost past (sym (ap keptIn e))
 
 -- a right area is left
 pub begins-right : (book s : List ℕ) → bookNumber book ≡ 0 → Begins book s → savedRight (bookOf book) s ≡ true
@@ -160,24 +174,30 @@ hosts-idle book saved asks said last ok right runs i =
 toldIn : Sessions.Answer → Told
 toldIn (number n) = nothingSaid 0
 toldIn (told t reply) = t
+toldIn (toldEach b reply) = nothingSaid 0
 toldIn (shown s) = nothingSaid 0
 toldIn (heard h) = nothingSaid 0
 toldIn (stands t) = nothingSaid 0
 toldIn (counted n) = nothingSaid 0
 toldIn (cutOff c) = nothingSaid 0
 
+-- a packet handed to a step, and what it gives
+abbrev Took : List ℕ → List ℕ → ℕ → List ℕ → List ℕ → List ℕ → Told → List ℕ → List ℕ → List ℕ → Type 0
+Took book saved size p reply room t next reply′ room′ =
+    Steps book saved (Call.Packet size) p [] reply room (record { answer = Answer.Told t; told = filled [] }) next reply′ room′
+
 packet-made : (book saved p reply room : List ℕ) (size : ℕ) (t : Told) (next reply′ room′ : List ℕ)
-  → Steps book saved (Call.Packet size) p reply room (Answer.Told t) next reply′ room′
+  → Took book saved size p reply room t next reply′ room′
   → _≡_ {A = Answered} (record { told = t; saved = next; reply = reply′ }) (packetCall book size saved p reply)
-unfolding exitOf callBy call answered answerIn areaAfter readBy toldIn
+unfolding exitOf callBy call answered answerIn areaAfter readWith toldIn
 packet-made book saved p reply room size t next reply′ room′ e =
-    ap (λ (x : Exit). record { told = toldIn (readBy (x .answer) [] []); saved = x .saved; reply = x .area }) e
+    ap (λ (x : Exit). record { told = toldIn (readBy (x .given) [] []); saved = x .saved; reply = x .area }) e
 
 -- A packet that completes no Start and no Suspend and is not answered with an accept moves no endpoint.
 pub hosts-unmoved : (book saved : List ℕ) (asks : List Asked) (said : List Sessions.Answer) (last : List ℕ) → bookNumber book ≡ 0
   → savedRight (bookOf book) saved ≡ true → Runs book saved asks said last
   → (size : ℕ) (p reply room : List ℕ) (t : Told) (next reply′ room′ : List ℕ)
-  → Steps book last (Call.Packet size) p reply room (Answer.Told t) next reply′ room′
+  → Took book last size p reply room t next reply′ room′
   → shiftsIn (gather size (connectionIn (length (bookOf book)) last .link .gathering) p .done) ≡ false → (t .mtype ≡ 2 → ⊥)
   → connectionIn (length (bookOf book)) next .ends ≡ connectionIn (length (bookOf book)) last .ends
 hosts-unmoved book saved asks said last ok right runs size p reply room t next reply′ room′ step other refused =
@@ -191,7 +211,7 @@ hosts-unmoved book saved asks said last ok right runs size p reply room t next r
 pub hosts-stopped : (book saved : List ℕ) (asks : List Asked) (said : List Sessions.Answer) (last : List ℕ) → bookNumber book ≡ 0
   → savedRight (bookOf book) saved ≡ true → Runs book saved asks said last
   → (size : ℕ) (p reply room : List ℕ) (t : Told) (next reply′ room′ : List ℕ)
-  → Steps book last (Call.Packet size) p reply room (Answer.Told t) next reply′ room′
+  → Took book last size p reply room t next reply′ room′
   → (m : Message) → gather size (connectionIn (length (bookOf book)) last .link .gathering) p .done ≡ some m → shifts m ≡ true
   → isEmpty (m .payload) ≡ false → t .mtype ≡ 3
   → StoppedSeen (bookOf book) (connectionIn (length (bookOf book)) last .ends) reply m
@@ -230,11 +250,12 @@ hosts-quiet b b′ s s′ asks asks′ said said′ last last′ ok ok′ same b
 any-step : (book saved room : List ℕ) (c : Sessions.Call)
   → let k = askedOf room c in
     let x = exitOf (call book saved c) (k .area) room in
-    Steps book saved (k .call) (k .input) (k .area) (k .room) (x .answer) (x .saved) (x .area) (x .room)
+    Steps book saved (k .call) (k .input) (k .lengths) (k .area) (k .room) (x .given) (x .saved) (x .area) (x .room)
 unfolding askedOf callBy
 any-step book saved room check = refl
 any-step book saved room fresh = refl
 any-step book saved room (packet size p reply) = refl
+any-step book saved room (burst size octets lengths reply) = refl
 any-step book saved room (event e) = refl
 any-step book saved room (settings s) = refl
 any-step book saved room (delay s) = refl
@@ -254,5 +275,39 @@ runs-any book saved room (c ∷ calls) =
          Runs book saved (askedOf room c ∷ map (askedOf room) calls) (a ∷ answers book (d .saved) calls)
            (after book (d .saved) calls))
       (answer-read (d .answer) (askedOf room c .area) room)
-      (goes saved (askedOf room c) (x .answer) (d .saved) (x .area) (x .room) (map (askedOf room) calls) _ _
+      (goes saved (askedOf room c) (x .given) (d .saved) (x .area) (x .room) (map (askedOf room) calls) _ _
          (any-step book saved room c) (runs-any book (d .saved) room calls))
+
+-- ---- Bursts of what runs
+
+burstIn : Exit → BurstAnswered
+burstIn x =
+    record {
+      burst = record { number = numberBy (x .given .answer); told = x .given .told };
+      saved = x .saved;
+      reply = x .area
+    }
+
+-- A burst that is not refused runs as its packets do, one by one: a host whose steps are its packets, each on its own 64 octets,
+-- gets the same answers in the same order and the same saved area, so that what is proved of a packet holds of every packet of
+-- every burst.
+pub hosts-burst : (book saved octets lengths reply room : List ℕ) (size : ℕ) (each : List Told) (next reply′ room′ : List ℕ)
+  → Steps book saved (Call.Burst size) octets lengths reply room (record { answer = Answer.Burst 0; told = each }) next reply′
+      room′
+  → BurstRuns book saved size (packetsIn octets lengths) reply room each next reply′
+unfolding exitOf callBy call answeredEach answerIn eachIn areaAfter burstIn numberBy
+hosts-burst book saved octets lengths reply room size each next reply′ room′ e =
+    let b = burstCall book size saved octets lengths reply in
+    let came : record { burst = record { number = 0; told = each }; saved = next; reply = reply′ } ≡ b = ap burstIn e in
+    let one = one-by-one book size saved octets lengths reply
+          (burst-taken book size saved octets lengths reply (sym (ap (λ (a : BurstAnswered). a .burst .number) came))) in
+    let calls = packetCalls size (packetsIn octets lengths) reply in
+    record {
+      told = one .each;
+      all = ap (λ (a : BurstAnswered). a .burst .told) came ∙ ap (λ (x : Burst). x .told) (one .told);
+      runs =
+        subst₂ (Runs book saved (map (askedOf room) calls))
+          (one .answers ∙ ap (slotAnswers (one .each)) (sym (ap (λ (a : BurstAnswered). a .reply) came)))
+          (one .saved′ ∙ sym (ap (λ (a : BurstAnswered). a .saved) came))
+          (runs-any book saved room calls)
+    }

@@ -2,34 +2,33 @@
 use commands_checks::tables::length_right;
 use commands_reply::Said;
 use rules::Signal;
-use saved::records::get;
-use saved_states::is_idle;
+use rules::layout::RECORD;
+use rules::layout::STATE;
 
 ghost use mathlib.Core.Path.{_≡_};
+ghost use mathlib.Core.Bool.{true};
 ghost use Prim.Native.Nat.{_+_, _*_, _≤_};
 ghost use lib.ListN.{length};
 ghost use Rattle.rules.specs.Book.{bookNumber, bookOf};
-ghost use Rattle.rules.specs.Saved.{recordRoom, endpointIn, endsIn, recordAt};
+ghost use Rattle.rules.specs.Saved.{recordRoom, endpointIn, recordRight, endsIn, recordAt};
 ghost use Rattle.rules.specs.Commands.{accept, inUse, discovered, obey};
 ghost use Rattle.rules.specs.declared.Signal.the-variants.{Discover};
+ghost use Rattle.saved.specs.Held.{Held};
 ghost use Rattle.saved.specs.Serves.{Serves};
 ghost use Rattle.commands_reply.specs.Obeys.{Obeys};
 ghost use Rattle.commands_show.specs.Says.{Says};
 
-// The bit that says that the endpoint of record i is in use.
+// The bit that says that the endpoint of record i is in use: the octet of its state is not that of idle.
 fn in_use(records: &[u8], i: usize) -> u8
-    requires { ⌜ (i + 1) * recordRoom ≤ length (now records) ⌝ }
+    requires { ⌜ ((i + 1) * recordRoom ≤ length (now records)) × (recordRight (recordAt i (now records)) ≡ true) ⌝ }
     ensures { λ r. ⌜ r ≡ inUse (endpointIn (recordAt i (now (records .entry)))) ⌝ }
 {
-    let e = get(records, i);
-    let state = e.state;
-    if is_idle(state) { 0 } else { 2 }
+    if records[i * RECORD + STATE] == 0 { 0 } else { 2 }
 }
 
 // Writes the whole answer, of which there are at most 32 octets.
 fn list_entries(book: &[u8], records: &[u8], reply: &mut [u8]) -> Said
-    requires { ⌜ (bookNumber (now book) ≡ 0) × (length (bookOf (now book)) * recordRoom ≤ length (now records))
-      × (32 ≤ length (now reply)) ⌝ }
+    requires { ⌜ (bookNumber (now book) ≡ 0) × Held (length (bookOf (now book))) (now records) × (32 ≤ length (now reply)) ⌝ }
     ensures { λ r. ⌜ Says
       (accept (discovered (bookOf (now (book .entry))) (endsIn (length (bookOf (now (book .entry)))) (now (records .entry)))))
       r (now (reply .entry)) (now (reply .exit)) ⌝ }

@@ -4,6 +4,7 @@
 mod events;
 
 use book::places::Located;
+use rules::Burst;
 use rules::Heard;
 use rules::OurSeid;
 use rules::Piece;
@@ -15,7 +16,7 @@ use rules::layout::RECORDS;
 
 ghost use mathlib.Core.Path.{_≡_};
 ghost use Rattle.rules.specs.Host.{checkCall, delayCall, packetsCall};
-ghost use Rattle.rules.specs.Calls.{Freshens, Takes, Cuts};
+ghost use Rattle.rules.specs.Calls.{Freshens, Takes, TakesAll, Cuts};
 ghost use Rattle.host.specs.Exports.{ours, HappensBy, Stands, statusBy};
 
 // Where an endpoint's settings stand: a number, the area (0 none, 1 the book, 2 the saved area), the place in it and the length.
@@ -57,6 +58,22 @@ pub extern "C" fn bawbeenor_packet(book: &[u8], size: usize, saved: &mut [u8], p
         r (now (saved .exit)) (now (reply .exit)) ⌝ }
 {
     bridge::packet(book, size, saved, packet, reply)
+}
+
+// What is told comes back through memory, as C returns a struct of this size.
+#[no_mangle]
+pub extern "C" fn bawbeenor_burst(
+    book: &[u8],
+    size: usize,
+    saved: &mut [u8],
+    octets: &[u8],
+    lengths: &[usize],
+    reply: &mut [u8],
+) -> Burst
+    ensures { λ r. ⌜ TakesAll (now (book .entry)) size (now (saved .entry)) (now (octets .entry)) (now (lengths .entry))
+        (now (reply .entry)) r (now (saved .exit)) (now (reply .exit)) ⌝ }
+{
+    bridge::burst(book, size, saved, octets, lengths, reply)
 }
 
 // An event by its number: 0 the awaited channel is up, 1 the channel of `seid` is down, 2 the link is lost.

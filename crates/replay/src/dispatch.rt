@@ -12,6 +12,7 @@ use replay_reading::Line;
 use replay_reading::read;
 use replay_steps::arrivals;
 use replay_steps::books;
+use replay_steps::bursts;
 use replay_steps::events;
 use replay_steps::options;
 use replay_steps::overwrites;
@@ -38,6 +39,7 @@ fn change(
     step: u8,
     numbers: [usize; 6],
     octets: &[u8],
+    lengths: &[usize],
     kept: Kept,
     book: &[u8],
     before: &[u8],
@@ -46,6 +48,7 @@ fn change(
     let seid = OurSeid(octet(numbers[0]));
     match step {
         b'p' => arrivals::packet(kept, book, saved, before, octets),
+        b'm' => bursts::burst(kept, book, saved, before, octets, lengths),
         b'u' => events::happen(kept, book, saved, before, Event::Up, notes::NO_CHANNEL_AWAITED),
         b'd' => events::happen(kept, book, saved, before, Event::Down(seid), notes::NO_CHANNEL),
         b'l' => events::happen(kept, book, saved, before, Event::Lost, notes::NO_CHANNEL),
@@ -68,13 +71,23 @@ pub fn complain(explains: bool, k: usize, why: u8) {
     }
 }
 
+// The first n of the lengths.
+fn some(lengths: &[usize], n: usize) -> &[usize] {
+    if lengths.len() < n {
+        return &lengths[0..0];
+    }
+    &lengths[0..n]
+}
+
 // Line k, with the octets at its end: one of the three has its step, and none where it was not understood.
 fn serve(k: usize, line: Line, octets: &[u8], kept: Kept, book: &mut [u8], saved: &mut [u8]) -> Kept {
     let numbers = line.numbers;
     ask(line.step, numbers, octets, kept, front(book, kept.book), saved);
     let mut before = [0u8; LONGEST];
     lay(&mut before, 0, saved);
-    let why = change(line.why, line.step, numbers, octets, kept, front(book, kept.book), &before, saved);
+    let lengths = line.lengths;
+    let packets = some(&lengths, line.packets);
+    let why = change(line.why, line.step, numbers, octets, packets, kept, front(book, kept.book), &before, saved);
     complain(kept.explains, k, why);
     settle(line.step, numbers[0], octets, kept, book, saved)
 }

@@ -83,6 +83,8 @@ pub const SILENT: u8 = b's';
 
 pub const PACKET: u8 = b'>';
 
+pub const BURST: u8 = b'm';
+
 pub const EVENT: u8 = b'e';
 
 pub const SETTINGS: u8 = b'q';
@@ -102,6 +104,7 @@ pub fn answer_with(key: u8, a: usize, b: usize, octets: &[u8]) {
         r:refused $\n\
         s:silent\n\
         >:>\n\
+        m:burst $\n\
         e:event $\n\
         q:settings $\n\
         u:delay $ unreported $\n\

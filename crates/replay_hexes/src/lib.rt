@@ -41,7 +41,7 @@ pub fn spell(value: u8) -> u8
 }
 
 // The octet whose two digits stand at a place; 256 where they are not there.
-fn octet_at(s: &[u8], at: usize) -> u16
+pub fn octet_at(s: &[u8], at: usize) -> u16
     ensures { λ r. ⌜ r ≡ octetAt at (now (s .entry)) ⌝ }
 {
     if s.len() <= at {

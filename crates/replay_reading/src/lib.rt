@@ -3,7 +3,10 @@
 //   s  the name of a state       c  the name of a channel
 // and what stands at the end is
 //   .  nothing                   *  octets, parted by blanks     p  the same, at most 512
-//   k  a dash, or 1 to 64 octets that are not parted
+//   k  a dash, or 1 to 64 octets that are not parted             /  packets, as `packets` has them
+pub mod packets;
+use crate::packets::MOST;
+use crate::packets::Packets;
 use replay_script::lines::next;
 use replay_script::lines::rest;
 use replay_script::lines::word;
@@ -25,23 +28,45 @@ pub const NO_BOOK: u8 = 3;
 
 pub const ODD: u8 = 4;
 
-// A line that was read: whether it was understood, the letter of its step, its words as numbers, and how many octets stand at its
-// end. What it does not have is 0.
+// A line that was read: whether it was understood, the letter of its step, its words as numbers, how many octets stand at its
+// end, and of how many packets with which lengths they are. What it does not have is 0.
 pub struct Line {
     pub why: u8,
     pub step: u8,
     pub numbers: [usize; 6],
     pub octets: usize,
+    pub packets: usize,
+    pub lengths: [usize; MOST],
 }
 
 // A line that was not understood.
 fn odd(why: u8) -> Line {
     let numbers = [0usize; 6];
+    let lengths = [0usize; MOST];
     Line {
         why,
         step: 0,
         numbers,
         octets: 0,
+        packets: 0,
+        lengths,
+    }
+}
+
+// A line of packets, by the letter of its step.
+fn parcel(step: u8, read: Packets) -> Line {
+    if read.odd {
+        return odd(ODD);
+    }
+    let numbers = [0usize; 6];
+    let lengths = read.lengths;
+    Line {
+        why: FINE,
+        step,
+        numbers,
+        octets: read.octets,
+        packets: read.count,
+        lengths,
     }
 }
 
@@ -167,6 +192,9 @@ fn fit(row: &[u8], text: &[u8], at: usize, booked: bool, data: &mut [u8]) -> Lin
             return odd(NO_BOOK);
         }
     }
+    if row[2] == b'/' {
+        return parcel(row[0], packets::read(rest(text, at), data));
+    }
     let read = words(rest(row, 3), text, at);
     let octets = ending(row[2], rest(text, read.at), data);
     if read.odd {
@@ -176,11 +204,14 @@ fn fit(row: &[u8], text: &[u8], at: usize, booked: bool, data: &mut [u8]) -> Lin
         return odd(ODD);
     }
     let numbers = read.numbers;
+    let lengths = [0usize; MOST];
     Line {
         why: FINE,
         step: row[0],
         numbers,
         octets,
+        packets: 0,
+        lengths,
     }
 }
 

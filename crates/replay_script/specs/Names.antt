@@ -10,6 +10,7 @@ stepTable = linesOf (
     "size:s-.n" ∷
     "area:a-.n" ∷
     "packet:p+*" ∷
+    "burst:m+/" ∷
     "up:u+." ∷
     "down:d+.o" ∷
     "lost:l+." ∷

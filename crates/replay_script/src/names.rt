@@ -6,11 +6,12 @@ use crate::tables::value;
 // The steps. Under a step's name stand its letter, by which `replay` finds its function; `+` where it needs a book, `-` where
 // not; then letters of `reading`: one for what stands at its end, and one for each word before that. A name may have several
 // words.
-pub const STEPS: [u8; 216] = *b"book:b-*\n\
+pub const STEPS: [u8; 226] = *b"book:b-*\n\
     rebook:r+*\n\
     size:s-.n\n\
     area:a-.n\n\
     packet:p+*\n\
+    burst:m+/\n\
     up:u+.\n\
     down:d+.o\n\
     lost:l+.\n\

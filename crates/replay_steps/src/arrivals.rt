@@ -33,7 +33,7 @@ fn say_reply(size: usize, label: u8, mtype: u8, signal: u8, payload: &[u8]) {
 }
 
 // The answer to a packet; `reply` is the reply's payload.
-fn say_told(size: usize, told: Told, reply: &[u8]) {
+pub fn say_told(size: usize, told: Told, reply: &[u8]) {
     let number = told.number;
     if number != 0 {
         answer(says::REFUSED, wide(number), 0);
@@ -74,7 +74,7 @@ fn gathered<'a>(packet: &[u8], gathering: &'a [u8]) -> &'a [u8] {
 }
 
 // What a packet's answer means, if that is asked for.
-fn explain(kept: Kept, told: Told, packet: &[u8], before: &[u8], saved: &[u8], reply: &[u8]) {
+pub fn explain(kept: Kept, told: Told, packet: &[u8], before: &[u8], saved: &[u8], reply: &[u8]) {
     if !kept.explains {
         return;
     }

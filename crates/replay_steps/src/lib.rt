@@ -2,5 +2,6 @@
 pub mod options;
 pub mod books;
 pub mod arrivals;
+pub mod bursts;
 pub mod events;
 pub mod overwrites;

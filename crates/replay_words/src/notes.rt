@@ -25,6 +25,8 @@ pub const STANDS: u8 = b's';
 
 pub const PACKET_OF: u8 = b'p';
 
+pub const ONE_BY_ONE: u8 = b'm';
+
 // The key of a number: `ten` for number 10, `good` for 0, and a letter of its own for any other.
 fn key(number: u8, ten: u8, good: u8) -> u8 {
     match number {
@@ -44,10 +46,12 @@ pub fn note(number: u8, ten: u8, good: u8, a: usize, b: usize) {
         F:a kind octet of the book breaks its rule: media type 0 to 2 in bits 7-4, bit 3 for a sink, bits 2-0 zero\n\
         G:a capability list of the book is longer than 64 octets or breaks the rules of its elements\n\
         H:the packet size is not 48 to 672\n\
-        I:the reply area is below 64 octets, or the packet area is shorter than the packet to be written\n\
+        I:the reply area is below 64 octets, or below 1024 for a burst, or the packet area is shorter than the packet to be \
+        written\n\
         K:the packet number is too high, the payload above 512 octets, the label above 15, \
         the type above 3 or the signal above 63\n\
         L:the saved connection is not legal for this book\n\
+        M:a burst has at most 16 packets\n\
         u:no endpoint awaits its channel\n\
         d:the book has no endpoint of this SEID, or it has no channel\n\
         q:the book has no endpoint of this SEID\n\
@@ -58,7 +62,8 @@ pub fn note(number: u8, ten: u8, good: u8, a: usize, b: usize) {
         r:the far end reported a delay of $.$ ms\n\
         n:the far end reported no delay for this endpoint\n\
         s:how the endpoint stands: its state, its channel and the far end's SEID, 0 where there is none\n\
-        p:packet number $, counted from 0, of $\n",
+        p:packet number $, counted from 0, of $\n\
+        m:the packets of the burst, one by one: $\n",
         key(number, ten, good),
         a,
         b,

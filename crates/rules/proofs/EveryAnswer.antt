@@ -1,14 +1,15 @@
 -- Every answer is a reply, silence, or a number of the list, for every call and every input: a call's number comes out of a
 -- chain of tests, each of which gives one of the call's numbers, and what is answered without a refusal is told on a legal
 -- connection.
-use Prim.Native.Nat.{ℕ, zero, suc, _+_, _-_, _≤_}
+use Prim.Native.Nat.{ℕ, zero, suc, _+_, _-_, _*_, _≤_}
 use native.Mathlib.Nat.{div-lt-iff-lt-mul}
 use native.Mathlib.Omega.{arith}
-use mathlib.Core.Path.{_≡_, refl, sym}
+use mathlib.Core.Path.{_≡_, refl, sym, _∙_, subst}
 use mathlib.Core.List.{List, [], _∷_, _++_}
 use mathlib.Core.Bool.{Bool, true, false, not, _&&_, _||_}
 use mathlib.Core.Option.{Option, none, some}
-use lib.ListN.{length, take, drop, getD, replicate}
+use lib.ListN.{length, take, drop, getD, replicate, length-drop}
+use lib.Seq.{length-take-le}
 use lib.Dec.{leb, ltb, eqb, lit≤}
 use borrow.Author.Tests.{leb-true, eqb-true, not-false}
 use Rattle.rules.specs.Computed.{computed}
@@ -25,18 +26,24 @@ use Rattle.rules.specs.Host.{checkCall, numberOr, savedNumber, refusalOf
 use Rattle.rules.specs.Host.{payloadOf, handledBy, takes, Answered, packetCall, eventCall, settingsOf, Shown, shownAt}
 use Rattle.rules.specs.Host.{settingsCall, heardAt, delayCall, packetsCall, Cut, cutRefusal, cutCall, standingAt}
 use Rattle.rules.specs.Host.{statusCall}
+use Rattle.rules.specs.Bursts.{packetsIn, slot, mostPackets, burstRoom, andThen, successive, burstRefusal}
+use Rattle.rules.specs.Bursts.{BurstAnswered, burstTaken, burstCall}
 use Rattle.rules.specs.Sessions.{Call, check, fresh, packet, event, settings, delay, packets, cut, number, told, shown}
-use Rattle.rules.specs.Sessions.{heard, cutOff, keeping, answered, asked, call, answers, status, stands}
+use Rattle.rules.specs.Sessions.{heard, cutOff, keeping, answered, asked, call, answers, status, stands, burst}
+use Rattle.rules.specs.Sessions.{answeredEach}
 use Rattle.rules.specs.Table.{traceBook}
 use Rattle.rules.specs.Listed.{numberIn, bookNumbers, refusals, refusedWith, Listed, refused, checked, begun, silent}
 use Rattle.rules.specs.Listed.{replied, happened, shows, hears, counts, cuts, EachListed, none as nothing, more, tells}
+use Rattle.rules.specs.Listed.{PacketAnswer, PacketAnswers, behind, first, handles, handlesEach}
 use Rattle.rules.specs.declared.OurSeid.{OurSeid}
 use Rattle.rules.specs.declared.Event.{Event}
 use Rattle.rules.specs.declared.Event.the-variants.{Up, Down, Lost}
 use Rattle.rules.specs.declared.Standing.{Standing}
 use Rattle.rules.specs.declared.Heard.{Heard}
 use Rattle.rules.proofs.Tests.{Told?, passed, failed, told as whether, and-l, and-r, between-least, clash}
-use Rattle.rules.proofs.Unrefused.{Unrefused, none-refused, packet-unrefused}
+use Rattle.rules.proofs.Unrefused.{Unrefused, none-refused, packet-unrefused, burst-given}
+use Rattle.rules.proofs.Bursts.{packets-counted, told-counted, slots-fit}
+use Rattle.rules.proofs.OneByOne.{comes, next-right}
 use Rattle.rules.proofs.SettingsShown.{settings-there, settings-short}
 use Rattle.rules.proofs.RightBook.{not-failed, entryRight, right-book}
 use Rattle.rules.proofs.Places.{find-known}
@@ -144,25 +151,24 @@ module _ (b saved : List ℕ) where
 
 -- ---- packet
 
-module _ (saved : List ℕ) (size : ℕ) (p reply next : List ℕ) where
-  reply-listed : (m : Message) (r : Reply) → Bounded m → length (payloadOf r) ≤ 64
-      → Listed saved (packet size p reply) (record { answer = told (toldOf m r) (front (payloadOf r) reply); saved = next })
+module _ (reply : List ℕ) where
+  reply-answers : (m : Message) (r : Reply) → Bounded m → length (payloadOf r) ≤ 64
+      → PacketAnswer reply (toldOf m r) (front (payloadOf r) reply)
   unfolding toldOf payloadOf said between
-  reply-listed m silence small short = rw nothing-written (silent size p reply next)
-  reply-listed m generalReject small short =
-      replied size p reply next (m .header .label) 1 (m .header .signal) [] (small .label) refl (small .signal) short
-  reply-listed m (accept q) small short =
-      replied size p reply next (m .header .label) 2 (m .header .signal) q (small .label) refl (small .signal) short
-  reply-listed m (reject q) small short =
-      replied size p reply next (m .header .label) 3 (m .header .signal) q (small .label) refl (small .signal) short
+  reply-answers m silence small short = rw nothing-written silent
+  reply-answers m generalReject small short =
+      replied (m .header .label) 1 (m .header .signal) [] (small .label) refl (small .signal) short
+  reply-answers m (accept q) small short =
+      replied (m .header .label) 2 (m .header .signal) q (small .label) refl (small .signal) short
+  reply-answers m (reject q) small short =
+      replied (m .header .label) 3 (m .header .signal) q (small .label) refl (small .signal) short
 
-  handled-listed : (book : Book) (ends : Ends) (g : Option Gathering) (done : Option Message)
+  handled-answers : (book : Book) (ends : Ends) (g : Option Gathering) (done : Option Message)
       → ((m : Message) → done ≡ some m → Bounded m) → ((m : Message) → length (payloadOf (answer book ends m .reply)) ≤ 64)
-      → let t = handledBy book ends g done in
-        Listed saved (packet size p reply) (record { answer = told (t .told) (front (t .payload) reply); saved = next })
+      → let t = handledBy book ends g done in PacketAnswer reply (t .told) (front (t .payload) reply)
   unfolding handledBy
-  handled-listed book ends g none small short = rw nothing-written (silent size p reply next)
-  handled-listed book ends g (some m) small short = reply-listed m (answer book ends m .reply) (small m refl) (short m)
+  handled-answers book ends g none small short = rw nothing-written silent
+  handled-answers book ends g (some m) small short = reply-answers m (answer book ends m .reply) (small m refl) (short m)
 
 module _ (b : List ℕ) (size : ℕ) (saved p reply : List ℕ) where
   packet-among : Among (bookNumbers ++ (8 ∷ 9 ∷ 12 ∷ [])) (packetRefusal b size saved reply)
@@ -174,16 +180,16 @@ module _ (b : List ℕ) (size : ℕ) (saved p reply : List ℕ) where
          if-arms (Among numbers) (ltb (length reply) 64) 9 _ (λ t. refl) λ f.
          if-arms (Among numbers) (savedRight (bookOf b) saved) 0 12 (λ t. refl) (λ f. refl))
 
-  packet-answered : (next : List ℕ) → Unrefused b saved
+  packet-answered : Unrefused b saved
       → let t = takes (bookOf b) size (connectionIn (length (bookOf b)) saved) p in
-        Listed saved (packet size p reply) (record { answer = told (t .told) (front (t .payload) reply); saved = next })
+        PacketAnswer reply (t .told) (front (t .payload) reply)
   unfolding takes
-  packet-answered next ok =
+  packet-answered ok =
       let book = bookOf b in
       let c = connectionIn (length book) saved in
       let s = gather size (c .link .gathering) p in
       let lawful = right-legal book saved (ok .right) in
-      handled-listed saved size p reply next book (c .ends) (s .gathering) (s .done)
+      handled-answers reply book (c .ends) (s .gathering) (s .done)
         (λ m e. completed-bounded size (c .link .gathering) p m (legal-gathering book c lawful) e)
         (answer-short book (c .ends) (right-book b (ok .book)) (legal-ends book c lawful .every))
 
@@ -192,8 +198,51 @@ module _ (b : List ℕ) (size : ℕ) (saved p reply : List ℕ) where
   packet-listed =
       let n = packetRefusal b size saved reply in
       if-arms (λ (a : Answered). Listed saved (packet size p reply) (answered a)) (eqb n 0) _ _
-        (λ t. packet-answered _ (packet-unrefused b size saved reply (eqb-true n 0 t)))
+        (λ t. handles size p reply _ _ _ (packet-answered (packet-unrefused b size saved reply (eqb-true n 0 t))))
         (λ f. refused (packet size p reply) n (among-refused (bookNumbers ++ (8 ∷ 9 ∷ 12 ∷ [])) n packet-among f))
+
+-- ---- burst
+
+each-answers : (b : List ℕ) (size : ℕ) → sizeRight size ≡ true → (ps : List (List ℕ)) (saved reply : List ℕ) → Unrefused b saved
+    → slot * length ps ≤ length reply
+    → let all = successive b size saved ps reply in PacketAnswers reply (all .told) (all .reply)
+unfolding successive andThen
+each-answers b size sized [] saved reply ok room = behind reply
+each-answers b size sized (p ∷ ps) saved reply ok room =
+    let whole = length-take-le slot reply (omega arith) in
+    let less = length-drop slot reply in
+    let a = packetCall b size saved p (take slot reply) in
+    let come = comes b size (ok .book) sized saved p (take slot reply) (ok .right) (omega arith) in
+    let next = next-right b size (ok .book) sized saved p (take slot reply) (ok .right) (omega arith) in
+    first reply (a .told) (a .reply) _ _
+      (subst (λ (x : Answered). PacketAnswer (take slot reply) (x .told) (x .reply)) (sym come)
+         (packet-answered b size saved p (take slot reply) ok))
+      (each-answers b size sized ps (a .saved) (drop slot reply) (record { book = ok .book; right = next }) (omega arith))
+
+module _ (b : List ℕ) (size : ℕ) (saved octets lengths reply : List ℕ) where
+  burst-among : Among (bookNumbers ++ (8 ∷ 13 ∷ 9 ∷ 12 ∷ [])) (burstRefusal b size saved lengths reply)
+  unfolding burstRefusal savedNumber member
+  burst-among =
+      let numbers = bookNumbers ++ (8 ∷ 13 ∷ 9 ∷ 12 ∷ []) in
+      book-or (8 ∷ 13 ∷ 9 ∷ 12 ∷ []) b _
+        (if-arms (Among numbers) (not (sizeRight size)) 8 _ (λ t. refl) λ f.
+         if-arms (Among numbers) (ltb mostPackets (length lengths)) 13 _ (λ t. refl) λ f.
+         if-arms (Among numbers) (ltb (length reply) burstRoom) 9 _ (λ t. refl) λ f.
+         if-arms (Among numbers) (savedRight (bookOf b) saved) 0 12 (λ t. refl) (λ f. refl))
+
+  burst-listed : Listed saved (burst size octets lengths reply) (answeredEach (burstCall b size saved octets lengths reply))
+  unfolding burstCall burstTaken answeredEach refusals refusedWith
+  burst-listed =
+      let n = burstRefusal b size saved lengths reply in
+      let ps = packetsIn octets lengths in
+      if-arms (λ (a : BurstAnswered). Listed saved (burst size octets lengths reply) (answeredEach a)) (eqb n 0) _ _
+        (λ t.
+          let met = burst-given b size saved lengths reply (eqb-true n 0 t) in
+          handlesEach size octets lengths reply _ _ _ (told-counted b size saved ps reply ∙ packets-counted octets lengths)
+            (each-answers b size (met .sized) ps saved reply (met .given)
+               (slots-fit octets lengths reply (met .few) (met .room))))
+        (λ f. refused (burst size octets lengths reply) n
+           (among-refused (bookNumbers ++ (8 ∷ 13 ∷ 9 ∷ 12 ∷ [])) n burst-among f))
 
 -- ---- event
 
@@ -328,6 +377,7 @@ unfolding call asked checkCall
 every-answer b saved check = check-listed b saved (whether (eqb (bookNumber b) 0))
 every-answer b saved fresh = fresh-listed b saved
 every-answer b saved (packet size p reply) = packet-listed b size saved p reply
+every-answer b saved (burst size octets lengths reply) = burst-listed b size saved octets lengths reply
 every-answer b saved (event e) = event-listed b saved e
 every-answer b saved (settings s) = settings-listed b saved s
 every-answer b saved (delay s) = delay-listed b saved s
@@ -369,7 +419,8 @@ pub numbers-given :
     ∷ numberOf traceBook freshArea
         (cut 48 (record { header = record { label = 1; mtype = 2; signal = 1 }; payload = [] }) 1 (replicate 48 0))
     ∷ numberOf traceBook [] (packet 48 discover (replicate 64 0))
+    ∷ numberOf traceBook freshArea (burst 48 discover (replicate 17 2) [])
     ∷ []
-  ≡ 1 ∷ 2 ∷ 3 ∷ 4 ∷ 5 ∷ 6 ∷ 7 ∷ 8 ∷ 9 ∷ 10 ∷ 11 ∷ 12 ∷ []
+  ≡ 1 ∷ 2 ∷ 3 ∷ 4 ∷ 5 ∷ 6 ∷ 7 ∷ 8 ∷ 9 ∷ 10 ∷ 11 ∷ 12 ∷ 13 ∷ []
 unfolding computed traceBook numberIn
 numbers-given = refl

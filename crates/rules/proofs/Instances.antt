@@ -1,7 +1,7 @@
 -- The hypotheses of the theorems can be met: one computed case for each.
 use Prim.Native.Nat.{ℕ}
 use mathlib.Core.Path.{_≡_, refl}
-use mathlib.Core.List.{[], _∷_}
+use mathlib.Core.List.{List, [], _∷_}
 use native.Mathlib.Omega.{arith}
 use lib.ListN.{replicate}
 use Rattle.rules.specs.Computed.{computed}
@@ -9,7 +9,10 @@ use Rattle.rules.specs.Elements.{items, stored}
 use Rattle.rules.specs.Book.{bookOf}
 use Rattle.rules.specs.Endpoints.{Ends, idleHead}
 use Rattle.rules.specs.Commands.{answer}
-use Rattle.rules.specs.Host.{packetCall, nothingSaid}
+use Rattle.rules.specs.Saved.{areaFor}
+use Rattle.rules.specs.Host.{packetCall, nothingSaid, freshCall}
+use Rattle.rules.specs.Bursts.{noneTold, burstCall}
+use Rattle.rules.specs.OneByOne.{OneByOne}
 use Rattle.rules.specs.Moves.{Stopped, isAccept, shifts}
 use Rattle.rules.specs.Table.{traceBook}
 use Rattle.rules.specs.declared.State.the-variants.{Open, Streaming}
@@ -17,7 +20,8 @@ use Rattle.rules.specs.declared.Channel.the-variants.{Up}
 use Rattle.rules.specs.declared.Delay.the-variants.{Unreported}
 use Rattle.rules.specs.declared.Signal.the-variants.{Start}
 use Rattle.rules.proofs.Moves.{start-stops, unmoved}
-use Rattle.rules.proofs.Refused.{refused-packet}
+use Rattle.rules.proofs.Refused.{refused-packet, refused-burst}
+use Rattle.rules.proofs.OneByOne.{one-by-one}
 
 -- the trace book's endpoints, the first open with its channel up, the second idle
 pub openAndIdle : Ends
@@ -53,6 +57,21 @@ pub size-refused : packetCall traceBook 47 [] (0x10 ∷ 0x01 ∷ []) (replicate 
   ≡ record { told = nothingSaid 8; saved = []; reply = replicate 64 0xEE }
 unfolding computed traceBook
 size-refused = refused-packet traceBook 47 [] (0x10 ∷ 0x01 ∷ []) (replicate 64 0xEE) (λ (e : _≡_ {A = ℕ} 8 0). omega arith)
+
+-- seventeen packets are refused with 13, before a reply area that is too short
+pub burst-refused : burstCall traceBook 48 [] [] (replicate 17 0) []
+  ≡ record { burst = noneTold 13; saved = []; reply = [] }
+unfolding computed traceBook
+burst-refused = refused-burst traceBook 48 [] [] (replicate 17 0) [] (λ (e : _≡_ {A = ℕ} 13 0). omega arith)
+
+-- a burst is its packets one by one: the trace table's first Discover, and a Get Capabilities in two pieces
+pub burst-of-three :
+  let area : List ℕ = replicate 1024 0xEE in
+  let octets : List ℕ = 0x10 ∷ 0x01 ∷ 0x24 ∷ 0x02 ∷ 0x02 ∷ 0x2C ∷ 0x04 ∷ [] in
+  let fresh = freshCall traceBook (replicate (areaFor 2) 0xDD) .saved in
+  OneByOne traceBook 48 fresh octets (2 ∷ 3 ∷ 2 ∷ []) area (burstCall traceBook 48 fresh octets (2 ∷ 3 ∷ 2 ∷ []) area)
+unfolding computed traceBook
+burst-of-three = one-by-one traceBook 48 _ _ (2 ∷ 3 ∷ 2 ∷ []) (replicate 1024 0xEE) refl
 
 -- elements asked in the order 8, 7, 1 are stored ascending
 pub stored-ascending :

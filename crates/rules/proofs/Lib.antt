@@ -15,14 +15,16 @@ pub mod CommandsLegal
 pub mod RightMessages
 pub mod StaysLegal
 pub mod ShortReplies
+pub mod Bursts
 pub mod Unrefused
 pub mod SavedStaysRight
 pub mod Never12
 pub mod Refused
 pub mod SettingsShown
+pub mod View
+pub mod OneByOne
 pub mod EveryAnswer
 pub mod Moves
-pub mod View
 pub mod Seen
 pub mod StoppedSeen
 pub mod AlikeStep

@@ -1,5 +1,5 @@
 -- On a right saved area no call answers number 12: where it could come from, the area passes, and every other number is at most
--- 11.
+-- 11, or 13.
 use Prim.Native.Nat.{ℕ, zero, suc, _≤_}
 use native.Mathlib.Nat.{le-trans}
 use native.Mathlib.Omega.{arith}
@@ -22,7 +22,8 @@ use Rattle.rules.specs.Host.{checkCall, numberOr, savedNumber, refusalOf
 use Rattle.rules.specs.Host.{Answered, packetCall, eventCall, Shown, shownAt, settingsCall, heardAt, delayCall, Cut}
 use Rattle.rules.specs.Host.{cutRefusal, cutCall, standingAt, statusCall, nowhere, standing}
 use Rattle.rules.specs.Sessions.{Call, check, fresh, packet, event, settings, delay, packets, cut, keeping, answered, asked}
-use Rattle.rules.specs.Sessions.{call, answers, status}
+use Rattle.rules.specs.Sessions.{call, answers, status, burst, answeredEach}
+use Rattle.rules.specs.Bursts.{mostPackets, burstRoom, burstRefusal, noneTold, BurstAnswered, burstTaken, burstCall}
 use Rattle.rules.specs.Listed.{numberIn, is12}
 use Rattle.rules.specs.declared.OurSeid.{OurSeid}
 use Rattle.rules.specs.declared.Delay.{Delay}
@@ -151,6 +152,17 @@ module _ (b saved : List ℕ) (h : savedRight (bookOf b) saved ≡ true) where
          if-arms Not12 (ltb (length reply) 64) 9 _ (λ t. below-12 9 (lit≤ tt)) λ f. saved-not-12)
         (sym (ap (λ (a : Answered). a .told .number) refused) ∙ e)
 
+  burst-not-12 : (size : ℕ) (octets lengths reply : List ℕ)
+      → Not12 (burstCall b size saved octets lengths reply .burst .number)
+  unfolding burstCall burstTaken burstRefusal noneTold
+  burst-not-12 size octets lengths reply =
+      let n = burstRefusal b size saved lengths reply in
+      if-arms (λ (a : BurstAnswered). Not12 (a .burst .number)) (eqb n 0) _ _ (λ t. below-12 0 (lit≤ tt))
+        (λ f. or-not-12 (bookNumber b) _ (book-not-12 b)
+          (if-arms Not12 (not (sizeRight size)) 8 _ (λ t. below-12 8 (lit≤ tt)) λ f.
+           if-arms Not12 (ltb mostPackets (length lengths)) 13 _ (λ t e. omega arith) λ f.
+           if-arms Not12 (ltb (length reply) burstRoom) 9 _ (λ t. below-12 9 (lit≤ tt)) λ f. saved-not-12))
+
   event-not-12 : (e : Event) → Not12 (eventCall b saved e .number)
   unfolding eventCall
   event-not-12 e =
@@ -200,10 +212,11 @@ cut-not-12 size m k area =
 -- ---- Every call, and every call of a sequence
 
 pub never-12 : (b saved : List ℕ) → savedRight (bookOf b) saved ≡ true → (c : Call) → numberIn (call b saved c .answer) ≡ 12 → ⊥
-unfolding call asked keeping answered numberIn checkCall
+unfolding call asked keeping answered answeredEach numberIn checkCall
 never-12 b saved h check = book-not-12 b
 never-12 b saved h fresh = fresh-not-12 b saved h
 never-12 b saved h (packet size p reply) = packet-not-12 b saved h size p reply
+never-12 b saved h (burst size octets lengths reply) = burst-not-12 b saved h size octets lengths reply
 never-12 b saved h (event e) = event-not-12 b saved h e
 never-12 b saved h (settings s) = settings-not-12 b saved h s
 never-12 b saved h (delay s) = delay-not-12 b saved h s

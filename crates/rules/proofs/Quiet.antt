@@ -2,10 +2,10 @@
 -- quiet, so each call is answered alike; and what a lent area holds makes no difference to what is compared.
 use Prim.Native.Nat.{ℕ}
 use mathlib.Core.Path.{_≡_, refl, sym, ap, ap₂, _∙_}
-use mathlib.Core.List.{List, [], _∷_, map}
+use mathlib.Core.List.{List, [], _∷_, _++_, map}
 use mathlib.Core.Bool.{Bool, true, false, not, _&&_}
 use mathlib.Core.Option.{Option, none, some}
-use lib.ListN.{length}
+use lib.ListN.{length, take, drop}
 use lib.Dec.{leb, ltb, eqb}
 use borrow.Author.Tests.{ltb-true, ltb-false, lt-leb, le-leb}
 use Rattle.rules.proofs.Tests.{Told?, passed, failed, told, and-l, and-r, not-passed}
@@ -15,19 +15,22 @@ use Rattle.rules.proofs.AlikeStep.{find-alike, answer-same, happens-sam
 use Rattle.rules.proofs.QuietStep.{quietEnds, quiet-unreported, fresh-quiet, answer-quiet, happens-quiet}
 use Rattle.rules.proofs.View.{view-step, begins-view}
 use Rattle.rules.proofs.LentAreas.{answers-cleared, after-cleared, restrained-cleared}
-use Rattle.rules.specs.Octets.{if_then_else_, isEmpty}
+use Rattle.rules.specs.Octets.{if_then_else_, isEmpty, each-of, front}
 use Rattle.rules.specs.Elements.{items}
 use Rattle.rules.specs.Book.{Entry, Book, Found, unknown, known, find, bookNumber, bookOf, written, upToCodec, shownBy02}
 use Rattle.rules.specs.Packets.{Message, Gathering, sizeRight, gather}
+use Rattle.rules.specs.Gathered.{Gathered, withDone, gatherAll}
 use Rattle.rules.specs.Endpoints.{Ends, Connection, freshConnection, isUp, endAt, awaiting, withEnds, Moved, downAt}
 use Rattle.rules.specs.Endpoints.{happens}
 use Rattle.rules.specs.Saved.{connectionIn}
-use Rattle.rules.specs.Host.{handledBy, takes, settingsOf, shownAt, heardAt, standingAt}
+use Rattle.rules.specs.Host.{Handled, handledBy, takes, settingsOf, shownAt, heardAt, standingAt}
+use Rattle.rules.specs.Bursts.{packetsIn, slot, mostPackets, burstRoom}
 use Rattle.rules.specs.Sessions
 use Rattle.rules.specs.Sessions.{Call, check, fresh, packet, event, settings, delay, packets, cut, number, shown, heard}
-use Rattle.rules.specs.Sessions.{call, after, status, stands}
-use Rattle.rules.specs.Views.{packetNumber, says, goes, View, Stepped}
-use Rattle.rules.specs.Alike.{alikeEntry, alike, usesIn, afterEvent, restrained, Begins, cleared, compared, Alike}
+use Rattle.rules.specs.Sessions.{call, after, status, stands, burst}
+use Rattle.rules.specs.Views.{packetNumber, burstNumber, Handed, takesEach, says, goes, View, Stepped}
+use Rattle.rules.specs.Alike.{alikeEntry, alike, usesDelay, usesIn, afterEvent, restrained, Begins, cleared, compared}
+use Rattle.rules.specs.Alike.{Alike}
 use Rattle.rules.specs.declared.Event.{Event}
 use Rattle.rules.specs.declared.Event.the-variants.{Down, Lost}
 use Rattle.rules.specs.declared.Standing.{Standing}
@@ -63,6 +66,93 @@ packet-taken size reply = go (sizeRight size) (told (ltb (length reply) 64))
     go false t = refl
     go true (passed few) = rw (few, lt-leb 64 (length reply) (ltb-true (length reply) 64 few))
     go true (failed enough) = rw (enough, le-leb 64 (length reply) (ltb-false (length reply) 64 enough))
+
+-- ---- The packets of a burst
+
+-- a burst is taken where it is refused with none of 8, 13 and 9
+burst-taken : (size : ℕ) (lengths reply : List ℕ)
+    → eqb (burstNumber size lengths reply) 0
+      ≡ (sizeRight size && leb (length lengths) mostPackets && leb burstRoom (length reply))
+unfolding burstNumber
+burst-taken size lengths reply =
+    go (sizeRight size) (told (ltb mostPackets (length lengths))) (told (ltb (length reply) burstRoom))
+  where
+    go : (right : Bool) → Told? (ltb mostPackets (length lengths)) → Told? (ltb (length reply) burstRoom)
+        → eqb
+            (if not right then 8
+             else if ltb mostPackets (length lengths) then 13
+             else if ltb (length reply) burstRoom then 9
+             else 0)
+            0
+          ≡ (right && leb (length lengths) mostPackets && leb burstRoom (length reply))
+    go false many short = refl
+    go true (passed many) short =
+        rw (many, lt-leb (length lengths) mostPackets (ltb-true mostPackets (length lengths) many))
+    go true (failed few) (passed short) =
+        rw (few, short, le-leb (length lengths) mostPackets (ltb-false mostPackets (length lengths) few),
+            lt-leb burstRoom (length reply) (ltb-true (length reply) burstRoom short))
+    go true (failed few) (failed enough) =
+        rw (few, enough, le-leb (length lengths) mostPackets (ltb-false mostPackets (length lengths) few),
+            le-leb burstRoom (length reply) (ltb-false (length reply) burstRoom enough))
+
+abbrev Heeding : List Message → Type 0
+Heeding messages = each-of (λ (m : Message). not (usesDelay m)) messages ≡ true
+
+-- neither the message that a packet completed nor one of those completed after it uses delay reporting
+done-heeding : (done : Option Message) (after : Gathered) → Heeding (withDone done after .messages)
+    → (usesIn done ≡ false) × Heeding (after .messages)
+unfolding withDone usesIn each-of
+done-heeding none after e = (refl, e)
+done-heeding (some m) after e =
+    (not-passed (usesDelay m) (and-l (not (usesDelay m)) _ e), and-r (not (usesDelay m)) _ e)
+
+gathering-of : (done : Option Message) (after : Gathered) → withDone done after .gathering ≡ after .gathering
+unfolding withDone
+gathering-of none after = refl
+gathering-of (some m) after = refl
+
+record EachPaced (book book′ : Book) (size : ℕ) (c : Connection) (ps : List (List ℕ)) (reply : List ℕ) : Type 0 where
+  handed : takesEach book size c ps reply ≡ takesEach book′ size c ps reply
+  still : quietEnds (takesEach book size c ps reply .connection .ends) ≡ true
+  left : takesEach book size c ps reply .connection .link .gathering ≡ gatherAll size (c .link .gathering) ps .gathering
+
+module _ {book book′ : Book} (same : AlikeBooks book book′) (size : ℕ) where
+  each-paced : (ps : List (List ℕ)) (c : Connection) (reply : List ℕ) → quietEnds (c .ends) ≡ true
+      → Heeding (gatherAll size (c .link .gathering) ps .messages) → EachPaced book book′ size c ps reply
+  unfolding takesEach gatherAll takes
+  each-paced [] c reply q heeds = record { handed = refl; still = q; left = refl }
+  each-paced (p ∷ ps) c reply q heeds =
+      let s = gather size (c .link .gathering) p in
+      let t = handledBy book (c .ends) (s .gathering) (s .done) in
+      let behind = gatherAll size (s .gathering) ps in
+      let both = done-heeding (s .done) behind heeds in
+      let gathers = handled-gathering book (c .ends) (s .gathering) (s .done) in
+      let rest =
+            each-paced ps (t .connection) (drop slot reply)
+              (handled-quiet book (c .ends) (s .gathering) (s .done) q (both .0)) (rw gathers (both .1)) in
+      record {
+        handed =
+          ap (λ (h : Handed).
+                record {
+                  told = t .told ∷ h .told;
+                  reply = front (t .payload) (take slot reply) ++ h .reply;
+                  connection = h .connection
+                })
+            (rest .handed)
+          ∙ ap (λ (x : Handled).
+                  let h = takesEach book′ size (x .connection) ps (drop slot reply) in
+                  record {
+                    told = x .told ∷ h .told;
+                    reply = front (x .payload) (take slot reply) ++ h .reply;
+                    connection = h .connection
+                  })
+              (handled-same (c .ends) (s .gathering) (s .done) same (both .0));
+        still = rest .still;
+        left =
+          rest .left
+          ∙ ap (λ (g : Option Gathering). gatherAll size g ps .gathering) gathers
+          ∙ sym (gathering-of (s .done) behind)
+      }
 
 -- ---- One event, one question
 
@@ -145,11 +235,37 @@ module _ {book book′ : Book} (same : AlikeBooks book book′) (c : Connection)
         restrains = rw refused (rw (← packet-taken size reply, refused) at r)
       }
 
+  burst-paced : (size : ℕ) (octets lengths reply : List ℕ) → Told? (eqb (burstNumber size lengths reply) 0)
+      → restrained (c .link .gathering) (burst size octets lengths reply ∷ calls) ≡ true
+      → Paced book book′ c (burst size octets lengths reply) calls
+  unfolding restrained says goes
+  burst-paced size octets lengths reply (passed taken) r =
+      let ps = packetsIn octets lengths in
+      let all = gatherAll size (c .link .gathering) ps in
+      let heeds = each-of (λ (m : Message). not (usesDelay m)) (all .messages) in
+      let both : heeds && restrained (all .gathering) calls ≡ true = rw (← burst-taken size lengths reply, taken) at r in
+      let each = each-paced same size ps c reply q (and-l heeds (restrained (all .gathering) calls) both) in
+      record {
+        said = rw (taken, each .handed);
+        gone = rw (taken, each .handed);
+        still = rw taken (each .still);
+        restrains = rw (taken, each .left) (and-r heeds (restrained (all .gathering) calls) both)
+      }
+  burst-paced size octets lengths reply (failed refused) r =
+      record {
+        said = rw refused;
+        gone = rw refused;
+        still = rw refused q;
+        restrains = rw refused (rw (← burst-taken size lengths reply, refused) at r)
+      }
+
   paced : (k : Call) → restrained (c .link .gathering) (k ∷ calls) ≡ true → Paced book book′ c k calls
   unfolding restrained says goes freshConnection
   paced check r = record { said = refl; gone = refl; still = q; restrains = r }
   paced fresh r = record { said = refl; gone = fresh-same same; still = fresh-quiet book; restrains = r }
   paced (packet size p reply) r = packet-paced size p reply (told (eqb (packetNumber size reply) 0)) r
+  paced (burst size octets lengths reply) r =
+      burst-paced size octets lengths reply (told (eqb (burstNumber size lengths reply) 0)) r
   paced (event v) r =
       record {
         said = ap (λ (m : Moved). compared (number (m .number))) (happens-same c v same);

@@ -12,7 +12,7 @@ use Rattle.rules.specs.Book.{bookNumber, bookOf}
 use Rattle.rules.specs.Endpoints.{endAt}
 use Rattle.rules.specs.Saved.{areaFor, connectionIn}
 use Rattle.rules.specs.Host.{freshCall, eventCall, settingsCall, delayCall}
-use Rattle.rules.specs.Sessions.{Call, packet, event, settings, delay, after}
+use Rattle.rules.specs.Sessions.{Call, packet, burst, event, settings, delay, after}
 use Rattle.rules.specs.Alike.{alikeEntry, alike, usesDelay, usesIn, afterEvent, restrained, Begins, begun, lost, cleared}
 use Rattle.rules.specs.Alike.{Alike}
 use Rattle.rules.specs.Computed.{computed}
@@ -28,13 +28,13 @@ plainBook =
     ∷ 0x01 ∷ 0x00 ∷ 0x0A ∷ 0x01 ∷ 0x00 ∷ 0x07 ∷ 0x06 ∷ 0x00 ∷ 0x00 ∷ 0xFF ∷ 0xFF ∷ 0x02 ∷ 0x35
     ∷ 0x05 ∷ 0x08 ∷ 0x0A ∷ 0x01 ∷ 0x00 ∷ 0x07 ∷ 0x06 ∷ 0x00 ∷ 0x00 ∷ 0xFF ∷ 0xFF ∷ 0x02 ∷ 0x35 ∷ []
 
--- The host asks for the settings of endpoint 1. Discover, Get Capabilities, Set Configuration without category 8, Open, the
--- channel comes up, Start, and the host asks for the delay.
-unfoldable pub headsetCalls : List ℕ → List Call
-headsetCalls area =
+-- The host asks for the settings of endpoint 1. Discover and Get Capabilities in one burst, Set Configuration without category 8,
+-- Open, the channel comes up, Start, and the host asks for the delay.
+unfoldable pub headsetCalls : ℕ → List Call
+headsetCalls octet =
+    let area = replicate 64 octet in
     settings (record { 0 = 1 })
-    ∷ packet 48 (0x10 ∷ 0x01 ∷ []) area
-    ∷ packet 48 (0x20 ∷ 0x02 ∷ 0x04 ∷ []) area
+    ∷ burst 48 (0x10 ∷ 0x01 ∷ 0x20 ∷ 0x02 ∷ 0x04 ∷ []) (2 ∷ 3 ∷ []) (replicate 1024 octet)
     ∷ packet 48 (0x30 ∷ 0x03 ∷ 0x04 ∷ 0x04 ∷ 0x01 ∷ 0x00 ∷ 0x07 ∷ 0x06 ∷ 0x00 ∷ 0x00 ∷ 0x21 ∷ 0x15 ∷ 0x02 ∷ 0x35 ∷ []) area
     ∷ packet 48 (0x40 ∷ 0x06 ∷ 0x04 ∷ []) area
     ∷ event Event.Up
@@ -42,11 +42,7 @@ headsetCalls area =
     ∷ delay (record { 0 = 1 })
     ∷ []
 
--- another reply area of the same length
-abbrev pub otherArea : List ℕ
-otherArea = replicate 64 0x11
-
-areas-of-one-length : map cleared (headsetCalls replyArea) ≡ map cleared (headsetCalls otherArea)
+areas-of-one-length : map cleared (headsetCalls 0xEE) ≡ map cleared (headsetCalls 0x11)
 unfolding computed headsetCalls cleared
 areas-of-one-length = refl
 
@@ -85,13 +81,13 @@ plain-begins : Begins plainBook freshArea
 unfolding computed plainBook
 plain-begins = begun usedArea refl
 
-calls-restrained : restrained none (headsetCalls replyArea) ≡ true
+calls-restrained : restrained none (headsetCalls 0xEE) ≡ true
 unfolding computed restrained usesIn usesDelay afterEvent headsetCalls
 calls-restrained = refl
 
-pub headset-alike : Alike traceBook plainBook lostArea freshArea (headsetCalls replyArea) (headsetCalls otherArea)
+pub headset-alike : Alike traceBook plainBook lostArea freshArea (headsetCalls 0xEE) (headsetCalls 0x11)
 headset-alike =
-    quiet traceBook plainBook lostArea freshArea (headsetCalls replyArea) (headsetCalls otherArea) trace-book-right
+    quiet traceBook plainBook lostArea freshArea (headsetCalls 0xEE) (headsetCalls 0x11) trace-book-right
       plain-book-right books-alike trace-begins plain-begins areas-of-one-length calls-restrained
 
 -- The parts that the first question shows differ by category 8, which is left out of the comparison.
@@ -108,6 +104,6 @@ unfolding computed plainBook
 plain-offers = refl
 
 -- and the headset does stream
-pub headset-streams : endAt (connectionIn 2 (after traceBook lostArea (headsetCalls replyArea)) .ends) 0 .head .state ≡ Streaming
+pub headset-streams : endAt (connectionIn 2 (after traceBook lostArea (headsetCalls 0xEE)) .ends) 0 .head .state ≡ Streaming
 unfolding computed traceBook delayedArea headsetCalls
 headset-streams = refl

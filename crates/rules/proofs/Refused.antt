@@ -18,13 +18,16 @@ use Rattle.rules.specs.Commands.{Reply, silence, generalReject, accept, 
 use Rattle.rules.specs.Host.{numberOr, nothingSaid, said, toldOf, payloadOf, Handled, handledBy, takes, packetRefusal}
 use Rattle.rules.specs.Host.{Answered, packetCall, Kept, freshCall, eventCall, Shown, shownAt, settingsCall, heard, heardAt}
 use Rattle.rules.specs.Host.{delayCall, refusalOf, Cut, cutRefusal, cutCall, standingAt, statusCall, nowhere, standing}
+use Rattle.rules.specs.Bursts.{packetsIn, burstRefusal, noneTold, BurstAnswered, burstTaken, burstCall}
 use Rattle.rules.specs.declared.OurSeid.{OurSeid}
 use Rattle.rules.specs.declared.Delay.{Delay}
 use Rattle.rules.specs.declared.Delay.the-variants.{Unreported, Reported}
 use Rattle.rules.specs.declared.Event.{Event}
 use Rattle.rules.specs.declared.Standing.{Standing}
 use Rattle.rules.specs.declared.Heard.{Heard}
+use borrow.Author.Tests.{eqb-true}
 use Rattle.rules.proofs.Tests.{told}
+use Rattle.rules.proofs.Outcomes.{if-arms}
 
 pub nothing-written : (area : List ℕ) → front [] area ≡ area
 unfolding front
@@ -72,7 +75,7 @@ unfolding handledBy nothingSaid
 handled-number book ends g none = refl
 handled-number book ends g (some m) = answer-number m (answer book ends m .reply)
 
-takes-number : (book : Book) (size : ℕ) (c : Connection) (p : List ℕ) → takes book size c p .told .number ≡ 0
+pub takes-number : (book : Book) (size : ℕ) (c : Connection) (p : List ℕ) → takes book size c p .told .number ≡ 0
 unfolding takes
 takes-number book size c p = handled-number book (c .ends) (gather size (c .link .gathering) p .gathering)
     (gather size (c .link .gathering) p .done)
@@ -102,6 +105,34 @@ unfolding packetCall
 refused-packet book size saved p reply =
     packet-back (packetRefusal book size saved reply) (takes (bookOf book) size (connectionIn (length (bookOf book)) saved) p)
       saved reply (takes-number (bookOf book) size (connectionIn (length (bookOf book)) saved) p)
+
+-- ---- burst: both areas, and nothing is told but the number
+
+pub refused-burst : (book : List ℕ) (size : ℕ) (saved octets lengths reply : List ℕ)
+  → (burstCall book size saved octets lengths reply .burst .number ≡ 0 → ⊥)
+  → burstCall book size saved octets lengths reply
+    ≡ record { burst = noneTold (burstRefusal book size saved lengths reply); saved = saved; reply = reply }
+unfolding burstCall burstTaken
+refused-burst book size saved octets lengths reply = by (eqb number 0)
+  where
+    number : ℕ
+    number = burstRefusal book size saved lengths reply
+    by : (t : Bool)
+      → let a : BurstAnswered =
+              if t then burstTaken book size saved (packetsIn octets lengths) reply
+              else record { burst = noneTold number; saved = saved; reply = reply } in
+        (a .burst .number ≡ 0 → ⊥) → a ≡ record { burst = noneTold number; saved = saved; reply = reply }
+    by true h = absurd (h refl)
+    by false h = refl
+
+-- and a burst that tells 0 was not refused
+pub burst-taken : (book : List ℕ) (size : ℕ) (saved octets lengths reply : List ℕ)
+  → burstCall book size saved octets lengths reply .burst .number ≡ 0 → burstRefusal book size saved lengths reply ≡ 0
+unfolding burstCall noneTold
+burst-taken book size saved octets lengths reply =
+    if-arms (λ (a : BurstAnswered). a .burst .number ≡ 0 → burstRefusal book size saved lengths reply ≡ 0)
+      (eqb (burstRefusal book size saved lengths reply) 0) _ _
+      (λ t e. eqb-true (burstRefusal book size saved lengths reply) 0 t) (λ f e. e)
 
 -- Silence: the number is 0 and no message type is told, and the reply area stays.
 type-silent : (m : Message) (r : Reply) → toldOf m r .mtype ≡ 0 → payloadOf r ≡ []

@@ -1,11 +1,10 @@
 -- No call of the host makes a right saved area wrong: a legal connection that is stored reads back as it was, and every step on a
 -- legal one leaves a legal one.
 use Prim.Native.Nat.{ℕ, _≤_}
-use native.Mathlib.Omega.{arith}
 use mathlib.Core.Path.{_≡_, refl, sym, _∙_}
 use mathlib.Core.List.{List, [], _∷_}
 use mathlib.Core.Bool.{true}
-use lib.ListN.{length, replicate}
+use lib.ListN.{length, take, drop, replicate}
 use lib.Dec.{leb, ltb, eqb}
 use borrow.Author.Tests.{leb-true, le-leb, ltb-false, eq-eqb, eqb-true, eqb-false}
 use Rattle.rules.specs.Octets.{if_then_else_}
@@ -13,10 +12,11 @@ use Rattle.rules.specs.Book.{Book, bookNumber, bookOf}
 use Rattle.rules.specs.Endpoints.{Connection, legal, freshConnection, happens}
 use Rattle.rules.specs.Saved.{areaFor, countIn, connectionIn, store, savedRight}
 use Rattle.rules.specs.Host.{numberOr, refusalOf, packetRefusal, Kept, freshCall, Answered, packetCall, eventCall}
+use Rattle.rules.specs.Bursts.{packetsIn, slot, andThen, successive, burstRefusal, BurstAnswered, burstTaken, burstCall}
 use Rattle.rules.specs.Computed.{computed}
 use Rattle.rules.specs.Table.{traceBook}
 use Rattle.rules.specs.Sessions.{Call, check, fresh, packet, event, settings, delay, packets, cut, keeping, answered, asked}
-use Rattle.rules.specs.Sessions.{call, after, status}
+use Rattle.rules.specs.Sessions.{call, after, status, burst, answeredEach}
 use Rattle.rules.specs.declared.Event.{Event}
 use Rattle.rules.proofs.Tests.{and-l, and-r}
 use Rattle.rules.proofs.SavedReads.{payload-fits, Roomy, length-store, reads-stored, count-stored, stored-octets-right}
@@ -98,17 +98,34 @@ module _ (b saved : List ℕ) (right : bookNumber b ≡ 0) (h : savedRight (book
         (eqb (numberOr (refusalOf b saved) (happens (bookOf b) c e .number)) 0) _ _
         (λ t. store-right _ (happens-legal (bookOf b) c (right-legal (bookOf b) saved h) e)) (λ f. h)
 
-  pub stays-legal : (c : Call) → savedRight (bookOf b) (call b saved c .saved) ≡ true
-  unfolding call asked keeping answered
-  stays-legal check = h
-  stays-legal fresh = fresh-keeps
-  stays-legal (packet size p reply) = packet-keeps size p reply
-  stays-legal (event e) = event-keeps e
-  stays-legal (settings s) = h
-  stays-legal (delay s) = h
-  stays-legal (status s) = h
-  stays-legal (packets size n) = h
-  stays-legal (cut size m k area) = h
+-- the packets of a burst, one after the other
+pub successive-keeps : (b : List ℕ) (size : ℕ) (saved : List ℕ) (ps : List (List ℕ)) (reply : List ℕ) → bookNumber b ≡ 0
+    → savedRight (bookOf b) saved ≡ true → savedRight (bookOf b) (successive b size saved ps reply .saved) ≡ true
+unfolding successive andThen
+successive-keeps b size saved [] reply right h = h
+successive-keeps b size saved (p ∷ ps) reply right h =
+    successive-keeps b size _ ps (drop slot reply) right (packet-keeps b saved right h size p (take slot reply))
+
+burst-keeps : (b : List ℕ) (size : ℕ) (saved octets lengths reply : List ℕ) → bookNumber b ≡ 0
+    → savedRight (bookOf b) saved ≡ true → savedRight (bookOf b) (burstCall b size saved octets lengths reply .saved) ≡ true
+unfolding burstCall burstTaken
+burst-keeps b size saved octets lengths reply right h =
+    if-arms (λ (a : BurstAnswered). savedRight (bookOf b) (a .saved) ≡ true) (eqb (burstRefusal b size saved lengths reply) 0) _ _
+      (λ t. successive-keeps b size saved (packetsIn octets lengths) reply right h) (λ f. h)
+
+pub stays-legal : (b saved : List ℕ) → bookNumber b ≡ 0 → savedRight (bookOf b) saved ≡ true → (c : Call)
+    → savedRight (bookOf b) (call b saved c .saved) ≡ true
+unfolding call asked keeping answered answeredEach
+stays-legal b saved right h check = h
+stays-legal b saved right h fresh = fresh-keeps b saved right h
+stays-legal b saved right h (packet size p reply) = packet-keeps b saved right h size p reply
+stays-legal b saved right h (burst size octets lengths reply) = burst-keeps b size saved octets lengths reply right h
+stays-legal b saved right h (event e) = event-keeps b saved right h e
+stays-legal b saved right h (settings s) = h
+stays-legal b saved right h (delay s) = h
+stays-legal b saved right h (status s) = h
+stays-legal b saved right h (packets size n) = h
+stays-legal b saved right h (cut size m k area) = h
 
 pub always-legal : (b saved : List ℕ) → bookNumber b ≡ 0 → savedRight (bookOf b) saved ≡ true → (calls : List Call)
     → savedRight (bookOf b) (after b saved calls) ≡ true

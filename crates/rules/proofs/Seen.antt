@@ -13,7 +13,7 @@ use Rattle.rules.specs.Saved.{connectionIn, savedRight}
 use Rattle.rules.specs.Commands.{Reply, silence, generalReject, accept, reject, answer}
 use Rattle.rules.specs.Host.{toldOf, said, handledBy, takes, packetCall}
 use Rattle.rules.specs.Sessions.{Call, packet, Answer, number, told, shown, heard, counted, cutOff, call, answered, after}
-use Rattle.rules.specs.Sessions.{stands}
+use Rattle.rules.specs.Sessions.{stands, toldEach}
 use Rattle.rules.specs.Views.{Stepped, packetNumber, says, goes}
 use Rattle.rules.specs.Moves.{isAccept, shiftsIn}
 use Rattle.rules.specs.declared.State.the-variants.{Idle}
@@ -67,6 +67,7 @@ takes-unmoved book size c p =
 mtypeIn : Answer → ℕ
 mtypeIn (number n) = 0
 mtypeIn (told t reply) = t .mtype
+mtypeIn (toldEach b reply) = 0
 mtypeIn (shown s) = 0
 mtypeIn (heard h) = 0
 mtypeIn (stands t) = 0

@@ -19,7 +19,7 @@ use Rattle.rules.specs.Commands.{Reply, silence, generalReject, accept, 
 use Rattle.rules.specs.Commands.{answer}
 use Rattle.rules.specs.Host.{toldOf, said, nothingSaid, payloadOf, handledBy, takes, packetCall, freshCall}
 use Rattle.rules.specs.Sessions.{packet, event, Answer, number, told, shown, heard, counted, cutOff, call, answered, after}
-use Rattle.rules.specs.Sessions.{stands}
+use Rattle.rules.specs.Sessions.{stands, toldEach}
 use Rattle.rules.specs.Views.{Stepped, packetNumber, says, goes}
 use Rattle.rules.specs.Moves.{Stopped, isAccept, shifts, shiftsTo, RejectSeen, StoppedSeen}
 use Rattle.rules.specs.Table.{traceBook, replyArea, setConfiguration1}
@@ -102,6 +102,7 @@ module _ (book : Book) (ends : Ends) where
 toldIn : Answer → Told
 toldIn (number n) = nothingSaid 0
 toldIn (told t reply) = t
+toldIn (toldEach b reply) = nothingSaid 0
 toldIn (shown s) = nothingSaid 0
 toldIn (heard h) = nothingSaid 0
 toldIn (stands t) = nothingSaid 0
@@ -111,6 +112,7 @@ toldIn (cutOff c) = nothingSaid 0
 areaIn : Answer → List ℕ
 areaIn (number n) = []
 areaIn (told t reply) = reply
+areaIn (toldEach b reply) = reply
 areaIn (shown s) = []
 areaIn (heard h) = []
 areaIn (stands t) = []

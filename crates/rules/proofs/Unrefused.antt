@@ -7,12 +7,13 @@ use mathlib.Core.List.{List}
 use mathlib.Core.Bool.{Bool, true, false, not}
 use lib.ListN.{length}
 use lib.Dec.{ltb}
-use borrow.Author.Tests.{ltb-false}
+use borrow.Author.Tests.{ltb-false, not-false}
 use Rattle.rules.specs.Octets.{if_then_else_}
 use Rattle.rules.specs.Book.{bookNumber, bookOf}
 use Rattle.rules.specs.Packets.{sizeRight}
 use Rattle.rules.specs.Saved.{savedRight}
 use Rattle.rules.specs.Host.{numberOr, savedNumber, refusalOf, packetRefusal}
+use Rattle.rules.specs.Bursts.{mostPackets, burstRoom, burstRefusal}
 
 none-saved : (b : Bool) → _≡_ {A = ℕ} (if b then 0 else 12) 0 → b ≡ true
 none-saved true e = refl
@@ -51,3 +52,32 @@ module _ (b : List ℕ) (size : ℕ) (saved reply : List ℕ) (e : packetRefusal
 
   pub packet-room : 64 ≤ length reply
   packet-room = ltb-false (length reply) 64 (tests .1)
+
+none-burst : (a b c d : Bool) → _≡_ {A = ℕ} (if a then 8 else if b then 13 else if c then 9 else if d then 0 else 12) 0
+    → (a ≡ false) × (b ≡ false) × (c ≡ false) × (d ≡ true)
+none-burst true b c d e = absurd (omega arith)
+none-burst false true c d e = absurd (omega arith)
+none-burst false false true d e = absurd (omega arith)
+none-burst false false false d e = (refl, refl, refl, none-saved d e)
+
+-- what a burst that is not refused was given
+pub record BurstGiven (b : List ℕ) (size : ℕ) (saved lengths reply : List ℕ) : Type 0 where
+  pub given : Unrefused b saved
+  pub sized : sizeRight size ≡ true
+  pub few : length lengths ≤ mostPackets
+  pub room : burstRoom ≤ length reply
+
+pub burst-given : (b : List ℕ) (size : ℕ) (saved lengths reply : List ℕ) → burstRefusal b size saved lengths reply ≡ 0
+    → BurstGiven b size saved lengths reply
+unfolding burstRefusal savedNumber
+burst-given b size saved lengths reply e =
+    let both = none-first (bookNumber b) _ e in
+    let tests =
+          none-burst (not (sizeRight size)) (ltb mostPackets (length lengths)) (ltb (length reply) burstRoom)
+            (savedRight (bookOf b) saved) (both .1) in
+    record {
+      given = record { book = both .0; right = tests .3 };
+      sized = not-false (sizeRight size) (tests .0);
+      few = ltb-false mostPackets (length lengths) (tests .1);
+      room = ltb-false (length reply) burstRoom (tests .2)
+    }

@@ -2,7 +2,7 @@
 -- the two bridges begin, and what it is that they behave alike.
 use Prim.Native.Nat.{ℕ}
 use mathlib.Core.Path.{_≡_}
-use mathlib.Core.List.{List, [], _∷_, map}
+use mathlib.Core.List.{List, [], _∷_, _++_, map}
 use mathlib.Core.Bool.{Bool, true, false, not, _&&_, _||_}
 use mathlib.Core.Option.{Option, none, some}
 use lib.ListN.{length, take, drop, replicate}
@@ -13,12 +13,15 @@ use Rattle.rules.specs.Book.{Entry, Book, bookOf, written, upToCodec, sh
 use Rattle.rules.specs.Packets.{Message, Gathering, gather, sizeRight}
 use Rattle.rules.specs.Endpoints.{Ends, isReported}
 use Rattle.rules.specs.Saved.{connectionIn}
+use Rattle.rules.specs.Gathered.{gatherAll}
 use Rattle.rules.specs.Host.{freshCall, eventCall}
+use Rattle.rules.specs.Bursts.{slot, mostPackets, burstRoom, packetsIn}
 use Rattle.rules.specs.Sessions
 use Rattle.rules.specs.Sessions.{Call, check, fresh, packet, event, settings, delay, packets, cut, Answer, number, told}
-use Rattle.rules.specs.Sessions.{shown, heard, counted, cutOff, after, stands, status}
+use Rattle.rules.specs.Sessions.{shown, heard, counted, cutOff, after, stands, status, burst, toldEach}
 use Rattle.rules.specs.declared.Event.{Event}
 use Rattle.rules.specs.declared.Event.the-variants.{Up, Down, Lost}
+use Rattle.rules.specs.declared.Told.{Told}
 
 -- ---- Books alike, entry by entry: same SEID, same kind, same elements but for category 8. In a right book the elements that 02
 -- shows are all but those of category 8.
@@ -52,7 +55,7 @@ afterEvent g (Down s) = g
 afterEvent g Lost = none
 
 -- By the inputs alone: the messages that the packets of a sequence complete, from a gathering on. A packet that is refused with 8
--- or 9 changes no gathering.
+-- or 9 changes no gathering, nor does a burst that is refused with 8, 13 or 9.
 unfoldable pub restrained : Option Gathering → List Call → Bool
 restrained g [] = true
 restrained g (check ∷ calls) = restrained g calls
@@ -60,6 +63,11 @@ restrained g (fresh ∷ calls) = restrained none calls
 restrained g (packet size p reply ∷ calls) =
     if sizeRight size && leb 64 (length reply)
     then not (usesIn (gather size g p .done)) && restrained (gather size g p .gathering) calls
+    else restrained g calls
+restrained g (burst size octets lengths reply ∷ calls) =
+    let all = gatherAll size g (packetsIn octets lengths) in
+    if sizeRight size && leb (length lengths) mostPackets && leb burstRoom (length reply)
+    then each-of (λ m. not (usesDelay m)) (all .messages) && restrained (all .gathering) calls
     else restrained g calls
 restrained g (event e ∷ calls) = restrained (afterEvent g e) calls
 restrained g (settings s ∷ calls) = restrained g calls
@@ -85,6 +93,7 @@ unfoldable pub cleared : Call → Call
 cleared check = check
 cleared fresh = fresh
 cleared (packet size p reply) = packet size p (replicate (length reply) 0)
+cleared (burst size octets lengths reply) = burst size octets lengths (replicate (length reply) 0)
 cleared (event e) = event e
 cleared (settings s) = settings s
 cleared (delay s) = delay s
@@ -92,11 +101,17 @@ cleared (status s) = status s
 cleared (packets size n) = packets size n
 cleared (cut size m k area) = cut size m k (replicate (length area) 0)
 
+-- what was written at the front of each 64 octets
+unfoldable pub writtenIn : List Told → List ℕ → List ℕ
+writtenIn [] reply = []
+writtenIn (t ∷ ts) reply = take (t .length) (take slot reply) ++ writtenIn ts (drop slot reply)
+
 -- What is compared of an answer: all of it, but of a lent area only what was written at its front, and of the part that
 -- `settings` shows only the elements of categories 1 to 7, as 02 shows them of an entry.
 unfoldable pub compared : Answer → Answer
 compared (number n) = number n
 compared (told t reply) = told t (take (t .length) reply)
+compared (toldEach b reply) = toldEach b (writtenIn (b .told) reply)
 compared (shown s) = shown (record { number = s .number; part = written (upToCodec (items (s .part))) })
 compared (heard h) = heard h
 compared (stands t) = stands t

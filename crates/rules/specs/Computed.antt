@@ -26,7 +26,8 @@ use Rattle.rules.specs.Host.{checkCall, numberOr, savedNumber, refusalOf
 use Rattle.rules.specs.Host.{toldOf, payloadOf, handledBy, takes, packetCall, eventCall, settingsOf, shownAt, settingsCall}
 use Rattle.rules.specs.Host.{heard, heardAt, delayCall, standing, nowhere, standingAt, statusCall, packetsCall, cutRefusal}
 use Rattle.rules.specs.Host.{cutCall}
-use Rattle.rules.specs.Sessions.{keeping, answered, asked, call, answers, after}
+use Rattle.rules.specs.Bursts.{packetsIn, andThen, successive, burstRefusal, filled, noneTold, burstTaken, burstCall}
+use Rattle.rules.specs.Sessions.{keeping, answered, answeredEach, asked, call, answers, after}
 
 unfoldable pub computed : Unit {0}
 unfolding between sameOctets member isEmpty some-of each-of front headed itemsPast element categoryOf lengthCode bitsWithin
@@ -44,5 +45,6 @@ unfolding between sameOctets member isEmpty some-of each-of front headed itemsPa
     named inUse discovered discover offersAt settled setAt configurationAt reconfigureAt openAt shiftOne shiftEach shift
     leaveAt securityAt delayAt obey answer checkCall numberOr savedNumber refusalOf packetRefusal freshCall nothingSaid
     said toldOf payloadOf handledBy takes packetCall eventCall settingsOf shownAt settingsCall heard heardAt delayCall
-    standing nowhere standingAt statusCall packetsCall cutRefusal cutCall keeping answered asked call answers after
+    standing nowhere standingAt statusCall packetsCall cutRefusal cutCall packetsIn andThen successive burstRefusal filled
+    noneTold burstTaken burstCall keeping answered answeredEach asked call answers after
 computed = tt

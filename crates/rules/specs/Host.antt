@@ -40,12 +40,12 @@ savedNumber book saved = if savedRight (bookOf book) saved then 0 else 12
 unfoldable pub refusalOf : List ℕ → List ℕ → ℕ
 refusalOf book saved = numberOr (bookNumber book) (savedNumber book saved)
 
+-- where packets are taken, the packet size, 8, is tested between the two
+abbrev pub sizedOr : List ℕ → ℕ → ℕ → ℕ
+sizedOr book size next = numberOr (bookNumber book) (if not (sizeRight size) then 8 else next)
+
 unfoldable pub packetRefusal : List ℕ → ℕ → List ℕ → List ℕ → ℕ
-packetRefusal book size saved reply =
-    numberOr (bookNumber book)
-    (if not (sizeRight size) then 8
-     else if ltb (length reply) 64 then 9
-     else savedNumber book saved)
+packetRefusal book size saved reply = sizedOr book size (if ltb (length reply) 64 then 9 else savedNumber book saved)
 
 -- ---- fresh: an area too short is 12
 

@@ -44,6 +44,11 @@
 --   1 missing, then 7 missing ................................... Elements.lacking
 --   stored ascending, the low nibble as zero .................... Elements.stored, kept; in the place of the old one: restored
 -- Traces from one fresh connection ............................... Table.traceTable; Traces.traces
+-- Bursts (document 02, Q-1)
+--   up to 16 packets, one behind the other ...................... Bursts.packetsIn
+--   as taking them one by one, each on its own 64 octets ........ Bursts.successive
+--   8, 13, 9, before the first packet is read ................... Bursts.burstRefusal
+--   a refusal tells zeros, and beyond the count zeros ........... Bursts.noneTold, filled
 -- Any sequence of calls .......................................... Sessions.call, answers, after
 -- Demand 2's Start and Suspend ................................... Moves.Stopped, StoppedSeen
 -- Demand 3 ....................................................... Alike.alike, restrained, Begins, cleared, compared, Alike
@@ -57,8 +62,10 @@ pub mod Endpoints
 pub mod Saved
 pub mod Commands
 pub mod Host
+pub mod Bursts
 pub mod Calls
 pub mod Sessions
+pub mod OneByOne
 pub mod Listed
 pub mod Views
 pub mod Alike

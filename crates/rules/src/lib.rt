@@ -101,6 +101,14 @@ pub struct Told {
     pub length: usize,
 }
 
+// What the host is told of a burst: a number, and of each of its packets what is told of a packet (document 02, Q-1). An array by
+// value: a refusal tells zeros, and no area is needed to write them to.
+#[repr(C)]
+pub struct Burst {
+    pub number: u8,
+    pub told: [Told; 16],
+}
+
 // What the host is told of a delay: a number, whether one was reported, and tenths of a millisecond.
 #[repr(C)]
 pub struct Heard {

@@ -83,7 +83,7 @@ set-by i l m h n q =
 -- ---- The head alone is written: the configuration that stands there stays, or there is none any more
 
 -- a record's octets are right
-record-right : (n i : ℕ) (l : List ℕ) → i < n → recordsRight n l ≡ true → recordRight (recordAt i l) ≡ true
+pub record-right : (n i : ℕ) (l : List ℕ) → i < n → recordsRight n l ≡ true → recordRight (recordAt i l) ≡ true
 unfolding recordsRight
 record-right zero i l h e = absurd (omega arith)
 record-right (suc n) zero l h e = and-l (recordRight (take recordRoom l)) (recordsRight n (drop recordRoom l)) e

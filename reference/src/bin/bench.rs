@@ -34,7 +34,7 @@ use std::hint::black_box;
 use std::io::{self, BufWriter, Write};
 
 use book::OurSeid;
-use bridge::{Event, PacketAnswer, Status};
+use bridge::{Event, Status, Told};
 use endpoints::Connection;
 use numbers::Number;
 use packets::Message;
@@ -87,6 +87,7 @@ fn write_step(out: &mut impl Write, step: Step) -> io::Result<()> {
         }
         Step::Explain => (11, [0; 6], Vec::new()),
         Step::Status(seid) => (12, [seid.0.into(), 0, 0, 0, 0, 0], Vec::new()),
+        Step::Burst(packets) => (13, [packets.len() as u16, 0, 0, 0, 0, 0], lengths_and_octets(&packets)),
         Step::States | Step::Count(_) | Step::Record(_) | Step::Gathering(_) => return Ok(()),
     };
     out.write_all(&[kind])?;
@@ -97,12 +98,19 @@ fn write_step(out: &mut impl Write, step: Step) -> io::Result<()> {
     out.write_all(&octets)
 }
 
+/// The length of each packet, two octets, the low one first; behind them the packets, one behind the other.
+fn lengths_and_octets(packets: &[Vec<u8>]) -> Vec<u8> {
+    let lengths = packets.iter().flat_map(|packet| (packet.len() as u16).to_le_bytes());
+    lengths.chain(packets.concat()).collect()
+}
+
 enum Call<'a> {
     Book(&'a [u8]),
     Rebook(&'a [u8]),
     Size(usize),
     Area(usize),
     Packet(&'a [u8]),
+    Burst(Vec<Vec<u8>>),
     Event(Event),
     Settings(OurSeid),
     Delay(OurSeid),
@@ -137,6 +145,7 @@ fn read_trace(mut octets: &[u8]) -> Vec<Call<'_>> {
             9 => Call::Delay(seid),
             11 => Call::Measure,
             12 => Call::Status(seid),
+            13 => Call::Burst(packets_of(own, pair(0).into())),
             _ => Call::Cut {
                 size: pair(0).into(),
                 message: Message {
@@ -152,6 +161,18 @@ fn read_trace(mut octets: &[u8]) -> Vec<Call<'_>> {
         octets = behind;
     }
     calls
+}
+
+/// The packets of a burst: the lengths stand first.
+fn packets_of(octets: &[u8], count: usize) -> Vec<Vec<u8>> {
+    let (lengths, mut rest) = octets.split_at(2 * count);
+    let mut packets = Vec::new();
+    for length in lengths.chunks(2) {
+        let (packet, behind) = rest.split_at(usize::from(u16::from_le_bytes([length[0], length[1]])));
+        packets.push(packet.to_vec());
+        rest = behind;
+    }
+    packets
 }
 
 // ---- The calls
@@ -210,7 +231,8 @@ impl<'a> Host<'a> {
                 self.area = *area;
                 0
             }
-            Call::Packet(packet) => self.packet(packet),
+            Call::Packet(packet) => told(self.packet(packet)),
+            Call::Burst(packets) => told(self.burst(packets)),
             Call::Event(event) => match book::read(self.book) {
                 Ok(book) => bridge::event(&book, &mut self.connection, *event).into(),
                 Err(number) => number.into(),
@@ -232,16 +254,15 @@ impl<'a> Host<'a> {
         }
     }
 
-    fn packet(&mut self, packet: &[u8]) -> u64 {
-        let book = match book::read(self.book) {
-            Ok(book) => book,
-            Err(number) => return number.into(),
-        };
-        match bridge::packet(&book, self.size, &mut self.connection, packet, self.area) {
-            PacketAnswer::Refused(number) => number.into(),
-            PacketAnswer::Silent(_) => 0,
-            PacketAnswer::Reply(message) => black_box(message).payload.len() as u64,
-        }
+    fn packet(&mut self, packet: &[u8]) -> Result<usize, Number> {
+        let book = book::read(self.book)?;
+        bridge::packet(&book, self.size, &mut self.connection, packet, self.area).map(length)
+    }
+
+    fn burst(&mut self, packets: &[Vec<u8>]) -> Result<usize, Number> {
+        let book = book::read(self.book)?;
+        let burst = bridge::burst(&book, self.size, &mut self.connection, packets, self.area)?;
+        Ok(burst.into_iter().map(length).sum())
     }
 
     fn settings(&self, seid: OurSeid) -> Result<usize, Number> {
@@ -257,6 +278,14 @@ impl<'a> Host<'a> {
     fn status(&self, seid: OurSeid) -> Result<Status, Number> {
         let book = book::read(self.book)?;
         bridge::status(&book, &self.connection, seid)
+    }
+}
+
+/// The length of a reply's payload.
+fn length(told: Told) -> usize {
+    match told {
+        Told::Silent(_) => 0,
+        Told::Reply(message) => black_box(message).payload.len(),
     }
 }
 

@@ -41,6 +41,12 @@ pub fn command(rng: &mut Rng, held: &Held) -> Command {
     (signal, payload(rng, held, place, signal))
 }
 
+/// A command for this endpoint that moves it on, mostly.
+pub fn on_its_way(rng: &mut Rng, held: &Held, place: usize) -> Command {
+    let signal = likely(rng, held, place);
+    (signal, payload(rng, held, place, signal))
+}
+
 /// An endpoint, rather one that left idle, so that the late states are reached often enough.
 fn further_on(rng: &mut Rng, held: &Held) -> usize {
     let place = rng.below(held.book.entries.len());

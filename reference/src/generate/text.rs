@@ -3,7 +3,7 @@
 
 use crate::bridge::Event;
 use crate::rng::Rng;
-use crate::script::{Step, LONGEST_LINE};
+use crate::script::{Step, LONGEST_LINE, MOST_WRITTEN};
 use crate::session::{apart, record_words};
 
 /// The step as it is written plainly.
@@ -14,6 +14,9 @@ pub fn plain(step: &Step) -> String {
         Step::Size(size) => format!("size {size}"),
         Step::Area(area) => format!("area {area}"),
         Step::Packet(octets) => format!("packet{}", apart(octets)),
+        Step::Burst(packets) => {
+            packets.iter().fold("burst".to_string(), |text, packet| text + " /" + &apart(packet))
+        }
         Step::Event(Event::Up) => "up".to_string(),
         Step::Event(Event::Down(seid)) => format!("down {}", seid.0),
         Step::Event(Event::Lost) => "lost".to_string(),
@@ -120,7 +123,10 @@ pub fn odd(rng: &mut Rng, step: &Step, seid: u8) -> Vec<u8> {
             return line;
         }
         12 | 17 => return edge_of_format(rng, seid).into_bytes(),
-        13 => words[0] = rng.pick(&["packet", "cut", "record", "gathering", "size", "explain"]).to_string(),
+        13 => {
+            words[0] =
+                rng.pick(&["packet", "burst", "cut", "record", "gathering", "size", "explain"]).to_string();
+        }
         14 => {
             let over = if rng.chance(600) { LONGEST_LINE + 1 - text.len().min(LONGEST_LINE) } else { 0 };
             let filling = rng.pick(&[" ", "\r", "#", "#", "0"]).repeat(over);
@@ -166,6 +172,17 @@ fn unknown_words(rng: &mut Rng) -> &'static str {
         "down",
         "packet 1",
         "packet 1001",
+        "packet / 10 01",
+        "burst 10 01",
+        "burst 10 / 10 01",
+        "burst / 10 01 /20 01",
+        "burst / 10 01/ 20 01",
+        "burst // 10 01",
+        "burst / 10 01 / 2",
+        "burst / 1001",
+        "burst /  / 10 01",
+        "burst / 10  01",
+        "bursts / 10 01",
     ])
 }
 
@@ -174,11 +191,11 @@ fn joined_by(rng: &mut Rng, words: &[String]) -> Vec<u8> {
     words.join(rng.pick(&["  ", "\t", " \t", ",", "\r"])).into_bytes()
 }
 
-/// Lines at the limits of what `record`, `gathering`, `count` and `packet` take, on either side.
+/// Lines at the limits of what `record`, `gathering`, `count`, `packet` and `burst` take, on either side.
 fn edge_of_format(rng: &mut Rng, seid: u8) -> String {
     let octets = |count: usize| apart(&vec![0xA5; count]);
     let digits = |count: usize| "5A".repeat(count);
-    match rng.below(10) {
+    match rng.below(12) {
         0 => format!("record {seid} idle none 0 - {}", digits(65)),
         1 => format!("record {seid} idle none 0 - {}", digits(64)),
         2 => format!("record {seid} idle none 0 - {}", rng.pick(&["5", "5A5", "5G"])),
@@ -190,6 +207,8 @@ fn edge_of_format(rng: &mut Rng, seid: u8) -> String {
             rng.pick(&["gathering 0 0 1 256 1", "gathering 256 0 1 2 1", "gathering 0 0 1 2 256"]).to_string()
         }
         8 => format!("count {}", rng.pick(&[255, 256])),
+        9 => format!("burst{}", " /".repeat(rng.pick(&[MOST_WRITTEN, MOST_WRITTEN + 1, 1000]))),
+        10 => format!("burst /{}", octets((LONGEST_LINE - "burst /".len()) / 3)),
         _ => format!("packet{}", octets(LONGEST_LINE / 3)),
     }
 }

@@ -10,6 +10,7 @@ use Rattle.rules.specs.Endpoints.{Endpoint, isIdle}
 use Rattle.rules.specs.Commands.{inUse}
 use Rattle.rules.proofs.RightBook.{right-book}
 use Rattle.octets.specs.Patch.{patch}
+use Rattle.saved.proofs.OneStore.{record-right}
 use Rattle.book.proofs.Entries.{RightEntry}
 use Rattle.commands_show.proofs.Discovering.{Left, all-left, first-left, seid-left, rest-left, octetsLeft, all, all-octets}
 use Rattle.commands_show.proofs.Discovering.{octets-turn, octets-said}
@@ -77,7 +78,12 @@ mul-reply : tie.Need-mul-reply Inv-loop μ-loop
 mul-reply c = let h = at-hand (c .before) in omega arith
 
 in-use-requires : tie.Need-in-use-requires Inv-loop μ-loop
-in-use-requires c κs = omega arith
+in-use-requires c κs =
+    let count = c .before .before .before in
+    let start = count .before .before .before .before in
+    let entries = count .count .ensures in
+    ( omega (arith, start .pre .1 .room),
+      record-right _ (c .before .before .loop .i) (start .args .records .now) (omega arith) (start .pre .1 .right))
 
 add-reply : tie.Need-add-reply Inv-loop μ-loop
 add-reply c = let h = at-hand (c .before .before) in omega (arith, used-little _ (c .in-use .ensures))
