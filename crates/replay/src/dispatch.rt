@@ -12,7 +12,6 @@ use replay_reading::Line;
 use replay_reading::read;
 use replay_steps::arrivals;
 use replay_steps::books;
-use replay_steps::bursts;
 use replay_steps::events;
 use replay_steps::options;
 use replay_steps::overwrites;
@@ -48,7 +47,7 @@ fn change(
     let seid = OurSeid(octet(numbers[0]));
     match step {
         b'p' => arrivals::packet(kept, book, saved, before, octets),
-        b'm' => bursts::burst(kept, book, saved, before, octets, lengths),
+        b'm' => replay_bursts::burst(kept, book, saved, before, octets, lengths),
         b'u' => events::happen(kept, book, saved, before, Event::Up, notes::NO_CHANNEL_AWAITED),
         b'd' => events::happen(kept, book, saved, before, Event::Down(seid), notes::NO_CHANNEL),
         b'l' => events::happen(kept, book, saved, before, Event::Lost, notes::NO_CHANNEL),

@@ -2,6 +2,5 @@
 pub mod options;
 pub mod books;
 pub mod arrivals;
-pub mod bursts;
 pub mod events;
 pub mod overwrites;

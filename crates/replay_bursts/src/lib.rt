@@ -1,6 +1,6 @@
-// burst: packets that come at once.
-use crate::arrivals::explain;
-use crate::arrivals::say_told;
+// The step burst: packets that come at once. In a crate of its own for the time of the check.
+use replay_steps::arrivals::explain;
+use replay_steps::arrivals::say_told;
 use replay_answers::kept::Kept;
 use replay_answers::octs::front;
 use replay_answers::octs::lay;

@@ -3,8 +3,8 @@ use Prim.Native.Nat.{_-_, _≤_}
 use mathlib.Core.Path.{_≡_}
 use lib.ListN.{length}
 use borrow.Author.Needs.{needs}
-use Rattle.replay_steps.proofs.bursts.say_each.Statement.{statement}
-use Rattle.replay_steps.proofs.bursts.say_each.Tie as tie
+use Rattle.replay_bursts.proofs.say_each.Statement.{statement}
+use Rattle.replay_bursts.proofs.say_each.Tie as tie
 
 abbrev Inv-loop : tie.InvT-loop
 Inv-loop kept book copy₀ octets lengths area each at₀ i₀ copy at i = (i ≤ length lengths) × (length copy ≡ length copy₀)
