@@ -17,7 +17,7 @@ use Rattle.rules.specs.Sessions
 use Rattle.rules.specs.Sessions.{check, fresh, packet, event, settings, delay, packets, cut, number, told, shown, heard, counted}
 use Rattle.rules.specs.Sessions.{cutOff, Done, keeping, answered, call, answers, after, stands, status, burst, toldEach}
 use Rattle.rules.specs.Sessions.{answeredEach}
-use Rattle.rules.specs.Bursts.{packetsIn, filled, BurstAnswered, burstCall}
+use Rattle.rules.specs.Bursts.{packetsIn, BurstAnswered, burstCall}
 use Rattle.rules.specs.Listed.{EachListed}
 use Rattle.rules.specs.Moves.{shifts, shiftsIn, StoppedSeen}
 use Rattle.rules.specs.Alike.{alike, restrained, Begins, begun, lost, cleared, compared}
@@ -181,28 +181,23 @@ toldIn (stands t) = nothingSaid 0
 toldIn (counted n) = nothingSaid 0
 toldIn (cutOff c) = nothingSaid 0
 
--- a packet handed to a step, and what it gives
-abbrev Took : List ℕ → List ℕ → ℕ → List ℕ → List ℕ → List ℕ → Told → List ℕ → List ℕ → List ℕ → Type 0
-Took book saved size p reply room t next reply′ room′ =
-    Steps book saved (Call.Packet size) p [] reply room (record { answer = Answer.Told t; told = filled [] }) next reply′ room′
-
-packet-made : (book saved p reply room : List ℕ) (size : ℕ) (t : Told) (next reply′ room′ : List ℕ)
-  → Took book saved size p reply room t next reply′ room′
+packet-made : (book saved p lengths reply room : List ℕ) (size : ℕ) (t : Told) (each : List Told) (next reply′ room′ : List ℕ)
+  → Steps book saved (Call.Packet size) p lengths reply room (record { answer = Answer.Told t; told = each }) next reply′ room′
   → _≡_ {A = Answered} (record { told = t; saved = next; reply = reply′ }) (packetCall book size saved p reply)
 unfolding exitOf callBy call answered answerIn areaAfter readWith toldIn
-packet-made book saved p reply room size t next reply′ room′ e =
+packet-made book saved p lengths reply room size t each next reply′ room′ e =
     ap (λ (x : Exit). record { told = toldIn (readBy (x .given) [] []); saved = x .saved; reply = x .area }) e
 
 -- A packet that completes no Start and no Suspend and is not answered with an accept moves no endpoint.
 pub hosts-unmoved : (book saved : List ℕ) (asks : List Asked) (said : List Sessions.Answer) (last : List ℕ) → bookNumber book ≡ 0
   → savedRight (bookOf book) saved ≡ true → Runs book saved asks said last
-  → (size : ℕ) (p reply room : List ℕ) (t : Told) (next reply′ room′ : List ℕ)
-  → Took book last size p reply room t next reply′ room′
+  → (size : ℕ) (p lengths reply room : List ℕ) (t : Told) (each : List Told) (next reply′ room′ : List ℕ)
+  → Steps book last (Call.Packet size) p lengths reply room (record { answer = Answer.Told t; told = each }) next reply′ room′
   → shiftsIn (gather size (connectionIn (length (bookOf book)) last .link .gathering) p .done) ≡ false → (t .mtype ≡ 2 → ⊥)
   → connectionIn (length (bookOf book)) next .ends ≡ connectionIn (length (bookOf book)) last .ends
-hosts-unmoved book saved asks said last ok right runs size p reply room t next reply′ room′ step other refused =
+hosts-unmoved book saved asks said last ok right runs size p lengths reply room t each next reply′ room′ step other refused =
     let legal = hosts-legal book saved asks said last ok right runs .right in
-    let e = packet-made book last p reply room size t next reply′ room′ step in
+    let e = packet-made book last p lengths reply room size t each next reply′ room′ step in
     ap (λ (a : Answered). connectionIn (length (bookOf book)) (a .saved) .ends) e
     ∙ packet-unmoved book size last p reply ok legal other (λ k. refused (ap (λ (a : Answered). a .told .mtype) e ∙ k))
 
@@ -210,15 +205,16 @@ hosts-unmoved book saved asks said last ok right runs size p reply room t next r
 -- listed before the one that failed, and the reply names it.
 pub hosts-stopped : (book saved : List ℕ) (asks : List Asked) (said : List Sessions.Answer) (last : List ℕ) → bookNumber book ≡ 0
   → savedRight (bookOf book) saved ≡ true → Runs book saved asks said last
-  → (size : ℕ) (p reply room : List ℕ) (t : Told) (next reply′ room′ : List ℕ)
-  → Took book last size p reply room t next reply′ room′
+  → (size : ℕ) (p lengths reply room : List ℕ) (t : Told) (each : List Told) (next reply′ room′ : List ℕ)
+  → Steps book last (Call.Packet size) p lengths reply room (record { answer = Answer.Told t; told = each }) next reply′ room′
   → (m : Message) → gather size (connectionIn (length (bookOf book)) last .link .gathering) p .done ≡ some m → shifts m ≡ true
   → isEmpty (m .payload) ≡ false → t .mtype ≡ 3
   → StoppedSeen (bookOf book) (connectionIn (length (bookOf book)) last .ends) reply m
       (record { told = t; saved = next; reply = reply′ })
-hosts-stopped book saved asks said last ok right runs size p reply room t next reply′ room′ step m done shift lists rejected =
+hosts-stopped book saved asks said last ok right runs size p lengths reply room t each next reply′ room′ step m done shift lists
+    rejected =
     let legal = hosts-legal book saved asks said last ok right runs .right in
-    let e = packet-made book last p reply room size t next reply′ room′ step in
+    let e = packet-made book last p lengths reply room size t each next reply′ room′ step in
     subst (StoppedSeen (bookOf book) (connectionIn (length (bookOf book)) last .ends) reply m) (sym e)
       (packet-stopped book size last p reply ok legal m done shift lists
          (sym (ap (λ (a : Answered). a .told .mtype) e) ∙ rejected))
