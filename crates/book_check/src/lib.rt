@@ -1,4 +1,6 @@
 // The check of a book, with the number that the host is told: 0 where it is right. One pass, entry after entry.
+#![tactic(auto)]
+
 ghost use Rattle.std.specs.Prelude.{◌≡◌, ◌≤◌, length, drop, get_or};
 ghost use Rattle.rules.specs.Book.{entries_number, book_number};
 ghost use Rattle.book.specs.Entries.{entry_number};

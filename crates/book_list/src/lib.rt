@@ -1,5 +1,7 @@
 // The list of an entry, walked by recursion on the octets left. What may follow an element hangs on its category alone, so there
 // is a function for each; only content protection may follow itself, and so only its function calls itself.
+#![tactic(auto)]
+
 ghost use Rattle.std.specs.Prelude.{◌≡◌, true, ◌&&◌, ◌+◌, ◌≤◌, length, take, drop};
 ghost use Rattle.rules.specs.Elements.{items};
 ghost use Rattle.rules.specs.Book.{list_right};

@@ -2,6 +2,8 @@
 // refusal leaves every octet of every lent area. The numbers are those of documents 01 and 02: 1 to 7 the book, 8 the packet
 // size, 9 an area too short, 10 an event or a question that does not apply, 11 a message that is not to be cut, 12 the saved
 // connection, 13 a burst of more than 16 packets, 0 done.
+#![tactic(auto)]
+
 ghost use Rattle.std.specs.Prelude.{◌≡◌};
 ghost use Rattle.rules.specs.Host.{check_call, settings_call, delay_call, status_call, packets_call};
 ghost use Rattle.rules.specs.Calls.{Freshens, Takes, TakesAll, Happens, Cuts};

@@ -1,5 +1,7 @@
 // A burst taken on a legal connection (document 02, Q-1): what one packet does, over packets that lie one behind the other. The
 // book, the size, the areas and the connection are judged before; a packet leaves a legal connection to the next.
+#![tactic(auto)]
+
 ghost use Rattle.std.specs.Prelude.{◌≡◌};
 ghost use Rattle.rules.specs.Host.{Answered};
 ghost use Rattle.rules.specs.Bursts.{packets_in, burst_refusal, none_told, BurstAnswered, burst_taken};

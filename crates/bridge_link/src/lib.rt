@@ -1,4 +1,6 @@
 // What begins a connection and what the host tells of the link: the calls `fresh` and `event`.
+#![tactic(auto)]
+
 ghost use Rattle.rules.specs.Calls.{Freshens, Happens};
 
 use rules::Event;

@@ -1,4 +1,6 @@
 // A packet taken on a legal connection: it is gathered, and a message that it completes is answered.
+#![tactic(auto)]
+
 ghost use Rattle.std.specs.Prelude.{◌≡◌, ◌≤◌, length, take};
 ghost use Rattle.rules.specs.Saved.{records_place, link_of, records_of, gathering_in};
 ghost use Rattle.rules.specs.Host.{nothing_said, Answered};

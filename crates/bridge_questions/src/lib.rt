@@ -1,4 +1,6 @@
 // The questions about one endpoint. Each is refused as every call is, and tells 10 where the book has no such SEID.
+#![tactic(auto)]
+
 mod delays;
 mod questions;
 mod standings;

@@ -1,4 +1,5 @@
 // The tests that stand before every call, in the order of documents 01 and 02.
+#![tactic(auto)]
 
 ghost use Rattle.std.specs.Prelude.{◌≡◌};
 ghost use Rattle.rules.specs.Book.{book_number};

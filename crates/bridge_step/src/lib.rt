@@ -1,5 +1,7 @@
 // Every call of the bridge by one function: what a host does is a row of its steps. It adds nothing to the calls, and its
 // contract is the step of the definitions' sequences, so that what is proved of sequences holds of every host.
+#![tactic(auto)]
+
 ghost use Rattle.std.specs.Prelude.{◌≡◌};
 ghost use Rattle.bridge_step.specs.Steps.{Steps, Copied, copied_of};
 

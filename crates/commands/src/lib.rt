@@ -1,5 +1,7 @@
 // The dispatcher: every message that is complete goes to its command, by the signal. A command that names one endpoint begins
 // with the checks that all of them share, and then does at the endpoint what is its own.
+#![tactic(auto)]
+
 ghost use Rattle.std.specs.Prelude.{◌≡◌, true};
 ghost use Rattle.rules.specs.Commands.{signal_of, obey as obeying};
 ghost use Rattle.saved.specs.Serves.{Serves};

@@ -1,4 +1,6 @@
 // Replies that a command writes at the front of the reply area, and what is said without writing.
+#![tactic(auto)]
+
 ghost use Rattle.std.specs.Prelude.{◌≡◌, [], ◌∷◌, ◌≤◌, length};
 ghost use Rattle.rules.specs.Octets.{front};
 ghost use Rattle.rules.specs.Commands.{silence, general_reject, accept, reject, rejects};

@@ -1,4 +1,6 @@
 // Start and Suspend: each listed SEID in turn, and a stop at the first that fails; earlier ones stay shifted.
+#![tactic(auto)]
+
 ghost use Rattle.std.specs.Prelude.{◌≡◌, ◌+◌, ◌*◌, ◌≤◌, length};
 ghost use Rattle.rules.specs.Endpoints.{in_state};
 ghost use Rattle.rules.specs.Saved.{record_room, head_in, head_octets, record_at};

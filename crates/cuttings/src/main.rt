@@ -1,5 +1,7 @@
 // Cuts a message of every payload length 0 to 512 at every packet size 48 to 672, packet after packet, and compares each packet
 // with a second, simpler way of cutting: one packet after another is taken off what is left of the payload.
+#![tactic(auto)]
+
 ghost use Rattle.std.specs.Prelude.{◌≡◌, ◌+◌, ◌*◌, ◌^◌, ◌≤◌, ◌<◌, min, length};
 
 use libc::STDOUT_FILENO;

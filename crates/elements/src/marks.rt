@@ -4,7 +4,7 @@ ghost use Rattle.rules.specs.Elements.{category_of};
 ghost use Rattle.elements.specs.Marks.{no_marks, mark_of, marked};
 
 // Where in a list the value of the element of each category begins, 0 where there is none.
-#[derive(Drop)]
+#[derive(Clone, Copy)]
 pub struct Marks {
     pub transport: u16,
     pub reporting: u16,

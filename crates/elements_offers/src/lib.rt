@@ -1,4 +1,6 @@
 // Whether an element is offered, and whether its length is right.
+#![tactic(auto)]
+
 ghost use Rattle.std.specs.Prelude.{◌≡◌, drop};
 ghost use Rattle.rules.specs.Elements.{items, category_of, length_code, codec_within, value_within, offered};
 ghost use Rattle.elements_reader.specs.Orders.{TransportFirst};

@@ -2,6 +2,8 @@
 // tells what stands there. Every walk over a list gets to its elements by `element_at`. A function over a struct that holds a
 // reference is proved by hand, so there are two, both thin: `look` takes a reader, and `element_at` makes one at a place that
 // the walk has moved on to. The work is `standing`'s.
+#![tactic(auto)]
+
 ghost use Rattle.std.specs.Prelude.{◌≡◌};
 ghost use Rattle.elements_reader.specs.Standing.{element_at};
 

@@ -1,5 +1,7 @@
 // Whether octets are a configuration that Set Configuration could have stored: walked in the order in which configurations are
 // stored, with a function for what may follow each category. Nothing may follow itself, so none calls itself.
+#![tactic(auto)]
+
 ghost use Rattle.std.specs.Prelude.{◌≡◌, false, ◌&&◌, ◌+◌, ◌≤◌, length, take, drop};
 ghost use Rattle.rules.specs.Elements.{items, could_store};
 ghost use Rattle.elements_reader.specs.Orders.{in_order, TransportFirst, setting_test};

@@ -1,3 +1,5 @@
 // What is shown of a list of elements, and what is stored of one.
+#![tactic(auto)]
+
 pub mod config;
 pub mod shown;

@@ -1,6 +1,8 @@
 // The public calls for a host in C: `bridge`'s, over slices and numbers. A slice crosses as two parameters, where it begins and
 // how long it is; include/bawbeenor.h says the same in C. Each answers as the call of `bridge` with the same numbers, on every
 // input.
+#![tactic(auto)]
+
 mod events;
 
 ghost use Rattle.std.specs.Prelude.{◌≡◌};

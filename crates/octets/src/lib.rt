@@ -1,5 +1,7 @@
 // Octets in areas that are lent: one way to write them, one to read a part, one to compare. Everything above writes through
 // `put`.
+#![tactic(auto)]
+
 ghost use Rattle.std.specs.Prelude.{◌≡◌, ◌+◌, ◌≤◌, length};
 ghost use Rattle.rules.specs.Octets.{same_octets};
 ghost use Rattle.octets.specs.Patch.{patch, part as part_of};

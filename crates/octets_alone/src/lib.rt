@@ -1,4 +1,6 @@
 // Whether of eight octets in an area all but the first are zero: the eight are compared in one go.
+#![tactic(auto)]
+
 ghost use Rattle.std.specs.Prelude.{◌≡◌, ◌∷◌, ◌+◌, ◌≤◌, length, replicate};
 ghost use Rattle.rules.specs.Octets.{same_octets};
 ghost use Rattle.octets.specs.Patch.{part as part_of};

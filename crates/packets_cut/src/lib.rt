@@ -1,4 +1,6 @@
 // The cutter: how many packets a message takes, and packet number n written into a lent area.
+#![tactic(auto)]
+
 ghost use Rattle.std.specs.Prelude.{◌≡◌, List, ℕ, ◌≤◌, ◌<◌, min, length};
 ghost use Rattle.rules.specs.Cutting.{avdtp, packets_for, header as headerFor};
 ghost use Rattle.rules.specs.Host.{packets_call, Cut, cut_call};
@@ -9,9 +11,9 @@ use rules::Piece;
 
 // How many packets a payload of this length takes: one, or a start and then as many further ones as hold the rest.
 fn count(size: usize, length: usize) -> usize
-    requires fact_1 { 48 ≤ size }
-    requires fact_2 { size ≤ 672 }
-    requires fact_3 { length ≤ 512 }
+    requires least_size { 48 ≤ size }
+    requires most_size { size ≤ 672 }
+    requires length_fits { length ≤ 512 }
     ensures { result ≡ packets_for avdtp size length }
 {
     if length <= size - 2 {
@@ -51,11 +53,11 @@ fn header_size(total: usize, index: usize) -> usize
 
 // Writes that header at the front of `area`.
 fn put_header(area: &mut [u8], label: u8, mtype: u8, signal: u8, total: usize, index: usize)
-    requires fact_1 { label < 16 }
-    requires fact_2 { mtype < 4 }
-    requires fact_3 { index < total }
-    requires fact_4 { total ≤ 255 }
-    requires fact_5 { header_of avdtp total index ≤ length area.old }
+    requires label_fits { label < 16 }
+    requires mtype_fits { mtype < 4 }
+    requires index_within { index < total }
+    requires total_fits { total ≤ 255 }
+    requires header_fits { header_of avdtp total index ≤ length area.old }
     ensures { (p : List ℕ) → area.new ≡ patch 0
         (headerFor (record { header = record { label = label; mtype = mtype; signal = signal }; payload = p }) total index)
         area.old }
@@ -82,9 +84,9 @@ fn put_header(area: &mut [u8], label: u8, mtype: u8, signal: u8, total: usize, i
 
 // Octets of payload before packet number `index`.
 fn offset(size: usize, index: usize) -> usize
-    requires fact_1 { 48 ≤ size }
-    requires fact_2 { size ≤ 672 }
-    requires fact_3 { index ≤ 255 }
+    requires least_size { 48 ≤ size }
+    requires most_size { size ≤ 672 }
+    requires index_fits { index ≤ 255 }
     ensures { result ≡ before avdtp size index }
 {
     if index == 0 {

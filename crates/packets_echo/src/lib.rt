@@ -1,4 +1,6 @@
 // The cutter and the gathering, one after the other as they run: what is cut reads back.
+#![tactic(auto)]
+
 ghost use Rattle.std.specs.Prelude.{◌≡◌, true, false, ◌≤◌, ◌<◌, length};
 ghost use Rattle.rules.specs.Octets.{front};
 ghost use Rattle.rules.specs.Packets.{gather};
@@ -33,8 +35,8 @@ fn nothing() -> Echoed
 
 // Gathers a packet in `room`; a message that it completes has its payload at the front of `message`.
 fn receive(room: &mut [u8], size: usize, packet: &[u8], message: &mut [u8]) -> Echoed
-    requires fact_1 { RoomRight room.old }
-    requires fact_2 { 512 ≤ length message.old }
+    requires room_right { RoomRight room.old }
+    requires message_fits { 512 ≤ length message.old }
     ensures echoed { result ≡ echoed_of (gather size (gathering_in room.old) packet.now).done }
     ensures room { room.new
         ≡ store_gathering (gather size (gathering_in room.old) packet.now).gathering room.old }
@@ -76,15 +78,15 @@ pub fn echo(
     area: &mut [u8],
     message: &mut [u8],
 ) -> Echoed
-    requires le_size_1 { 48 ≤ size }
-    requires le_size_2 { size ≤ 672 }
-    requires le_size_3 { label < 16 }
-    requires le_size_4 { mtype < 4 }
-    requires le_size_5 { signal < 64 }
-    requires payload_len_bound { length payload.now ≤ 512 }
-    requires room_right_1 { RoomRight room.old }
-    requires room_right_2 { 672 ≤ length area.old }
-    requires room_right_3 { 512 ≤ length message.old }
+    requires least_size { 48 ≤ size }
+    requires most_size { size ≤ 672 }
+    requires label_fits { label < 16 }
+    requires mtype_fits { mtype < 4 }
+    requires signal_fits { signal < 64 }
+    requires payload_fits { length payload.now ≤ 512 }
+    requires room_right { RoomRight room.old }
+    requires area_fits { 672 ≤ length area.old }
+    requires message_fits { 512 ≤ length message.old }
     ensures echoed { result
         ≡ record {
           done = true;

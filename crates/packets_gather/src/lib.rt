@@ -1,5 +1,7 @@
 // One gathering step for every packet, over the room that the gathering is saved in. The octets of a part go straight into that
 // room, once; a message that is whole in one packet is not copied at all.
+#![tactic(auto)]
+
 ghost use Rattle.std.specs.Prelude.{◌≡◌, ◌++◌, ◌+◌, ◌≤◌, ◌<◌, length, drop, get_or};
 ghost use Rattle.std.proofs.Math.Option.{some};
 ghost use Rattle.rules.specs.Octets.{front};
@@ -28,8 +30,8 @@ fn add_part(room: &mut [u8], parts: u8, before: usize, part: &[u8])
 
 // A gathering begins with the first of its packets.
 fn begin(room: &mut [u8], packet: &[u8])
-    requires room_len { length room.old ≡ gathering_room }
-    requires in_bounds { (3 ≤ length packet.now) × (length (drop 3 packet.now) ≤ 512) }
+    requires room_whole { length room.old ≡ gathering_room }
+    requires packet_fits { (3 ≤ length packet.now) × (length (drop 3 packet.now) ≤ 512) }
     ensures { room.new ≡ store_gathering (some (begun packet.now)) room.old }
 {
     room[MARK] = 1;
@@ -42,10 +44,10 @@ fn begin(room: &mut [u8], packet: &[u8])
 
 // A gathering goes on with one more packet.
 fn grow(room: &mut [u8], packet: &[u8])
-    requires room_len { (length room.old ≡ gathering_room) × (get_or room.old mark_place 0 ≡ 1)
+    requires room_gathers { (length room.old ≡ gathering_room) × (get_or room.old mark_place 0 ≡ 1)
         × (get_or room.old parts_place 0 < 255) }
-    requires in_bounds { 1 ≤ length packet.now }
-    requires packet_bound { payload_length_in room.old + length (drop 1 packet.now) ≤ 512 }
+    requires packet_begun { 1 ≤ length packet.now }
+    requires payload_fits { payload_length_in room.old + length (drop 1 packet.now) ≤ 512 }
     ensures { room.new
         ≡ store_gathering (some (grown (gathering_at room.old) packet.now)) room.old }
 {
@@ -74,10 +76,10 @@ pub fn gather(room: &mut [u8], size: usize, packet: &[u8]) -> Next
 
 // Puts together the message of which `packet` is the last part: what the room holds of it, and then the packet's part.
 pub fn assemble(message: &mut [u8], room: &[u8], packet: &[u8]) -> usize
-    requires room_len { length room.now ≡ gathering_room }
-    requires in_bounds { 1 ≤ length packet.now }
-    requires room_bound { payload_length_in room.now ≤ 512 }
-    requires packet_in_bounds { length (gathering_at room.now).message.payload + length (drop 1 packet.now) ≤ length message.old }
+    requires room_whole { length room.now ≡ gathering_room }
+    requires packet_begun { 1 ≤ length packet.now }
+    requires gathered_fits { payload_length_in room.now ≤ 512 }
+    requires message_fits { length (gathering_at room.now).message.payload + length (drop 1 packet.now) ≤ length message.old }
     ensures written { message.new
         ≡ front ((gathering_at room.now).message.payload ++ drop 1 packet.now) message.old }
     ensures size { result ≡ length ((gathering_at room.now).message.payload ++ drop 1 packet.now) }

@@ -1,4 +1,6 @@
 // What a packet leads to, by the packet and the room that a gathering is saved in. Nothing is written.
+#![tactic(auto)]
+
 pub mod nexts;
 
 ghost use Rattle.std.specs.Prelude.{◌≡◌, ◌≤◌, length, drop, get_or};
@@ -62,7 +64,7 @@ fn start(packet: &[u8]) -> Next
 // What a further packet leads to, a continue or the last.
 fn further(room: &[u8], packet: &[u8], last: bool) -> Next
     requires room_right { RoomRight room.now }
-    requires in_bounds { 1 ≤ length packet.now }
+    requires packet_begun { 1 ≤ length packet.now }
     ensures { result ≡ next_further (gathering_in room.now) last (label_in (get_or packet.now 0 0))
         (mtype_in (get_or packet.now 0 0)) (drop 1 packet.now) }
 {

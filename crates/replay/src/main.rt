@@ -1,5 +1,7 @@
 // Runs a script of packets and events against the bridge, line by line, and writes the bridge's answers. Every line gets its
 // answer, or `line K not understood`; nothing ends the run but the end of the input.
+#![tactic(auto)]
+
 mod dispatch;
 
 use crate::dispatch::{complain, run};

@@ -1,4 +1,6 @@
 // The answers of a script: how they are written, and how saved records are shown and overwritten.
+#![tactic(auto)]
+
 pub mod kept;
 pub mod octs;
 pub mod records;

@@ -1,4 +1,6 @@
 // The step burst: packets that come at once. In a crate of its own for the time of the check.
+#![tactic(auto)]
+
 use replay_answers::kept::Kept;
 use replay_answers::octs::{front, lay, within};
 use replay_answers::says;

@@ -1,4 +1,6 @@
 // Octets in hexadecimal, two digits each, of either case when they are read; parted by one blank each, or by nothing.
+#![tactic(auto)]
+
 ghost use Rattle.std.specs.Prelude.{◌≡◌, ◌≤◌};
 ghost use Rattle.replay_hexes.specs.Hexes.{digit_of, spelled, octet_at, place_of, is_there, whole_of, hex_count, read_into};
 

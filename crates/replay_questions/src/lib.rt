@@ -1,4 +1,6 @@
 // The steps that only ask, each found by its letter.
+#![tactic(auto)]
+
 mod questions;
 
 use replay_answers::kept::Kept;

@@ -4,6 +4,8 @@
 // and what stands at the end is
 //   .  nothing                   *  octets, parted by blanks     p  the same, at most 512
 //   k  a dash, or 1 to 64 octets that are not parted             /  packets, as `packets` has them
+#![tactic(auto)]
+
 pub mod packets;
 
 use crate::packets::{MOST, Packets};

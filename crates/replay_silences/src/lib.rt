@@ -1,4 +1,6 @@
 // Why a packet is not answered, by the packet and by what was being gathered before and is being gathered after it.
+#![tactic(auto)]
+
 use replay_answers::octs::pair;
 use replay_answers::says::{fill, say, sentence};
 use replay_script::numbers::wide;

@@ -1,4 +1,6 @@
 // The steps that change something: what each does, and what is answered.
+#![tactic(auto)]
+
 pub mod arrivals;
 pub mod books;
 pub mod events;

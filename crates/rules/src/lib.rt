@@ -1,16 +1,18 @@
 // The words that the definitions and the code share. There is no function here: the meaning stands in specs/. A message type is
 // `mtype`, as the language keeps `type` for itself. What the host is told is laid out as C lays it out.
+#![tactic(auto)]
+
 pub mod layout;
 
 // A SEID of ours, and one of the far end's: counted separately, and neither is accepted where the other belongs.
-#[derive(Drop)]
+#[derive(Clone, Copy)]
 pub struct OurSeid(pub u8);
 
-#[derive(Drop)]
+#[derive(Clone, Copy)]
 pub struct FarSeid(pub u8);
 
 // An endpoint's state, in the order of the saved record's octet.
-#[derive(Drop)]
+#[derive(Clone, Copy)]
 pub enum State {
     Idle,
     Configured,
@@ -21,7 +23,7 @@ pub enum State {
 }
 
 // An endpoint's transport channel.
-#[derive(Drop)]
+#[derive(Clone, Copy)]
 pub enum Channel {
     Absent,
     Awaited,
@@ -29,14 +31,14 @@ pub enum Channel {
 }
 
 // The delay that the far end reported, in tenths of a millisecond.
-#[derive(Drop)]
+#[derive(Clone, Copy)]
 pub enum Delay {
     Unreported,
     Reported(u16),
 }
 
 // The head of an endpoint: all that is kept of it but its configuration.
-#[derive(Drop)]
+#[derive(Clone, Copy)]
 pub struct Head {
     pub seid: OurSeid,
     pub state: State,
@@ -46,7 +48,7 @@ pub struct Head {
 }
 
 // A command, by its signal (001, 8.5): 01 to 0D in their order, then 00 and 0E to 3F.
-#[derive(Drop)]
+#[derive(Clone, Copy)]
 pub enum Signal {
     Discover,
     GetCapabilities,
@@ -65,7 +67,7 @@ pub enum Signal {
 }
 
 // What the host tells of the link.
-#[derive(Drop)]
+#[derive(Clone, Copy)]
 pub enum Event {
     Up,
     Down(OurSeid),
@@ -73,7 +75,7 @@ pub enum Event {
 }
 
 // What a list of elements is checked for: as the offer of an entry with a media type, or as what a command asks.
-#[derive(Drop)]
+#[derive(Clone, Copy)]
 pub enum Rule {
     Offer { media: u8 },
     Setting,
@@ -81,14 +83,14 @@ pub enum Rule {
 }
 
 // The first failure of a list of elements: the category and the code that it is told with. Code 0: there is none.
-#[derive(Drop)]
+#[derive(Clone, Copy)]
 pub struct Fault {
     pub category: u8,
     pub code: u8,
 }
 
 // The header of a message: its label, its message type (0 command, 1 general reject, 2 accept, 3 reject) and its signal.
-#[derive(Drop)]
+#[derive(Clone, Copy)]
 pub struct Header {
     pub label: u8,
     pub mtype: u8,
@@ -97,7 +99,7 @@ pub struct Header {
 
 // What the cutter tells: a number, and the length of the packet that was written.
 #[repr(C)]
-#[derive(Drop)]
+#[derive(Clone, Copy)]
 pub struct Piece {
     pub number: u8,
     pub length: usize,
@@ -106,7 +108,7 @@ pub struct Piece {
 // What the host is told of a packet: a number, and of the reply its label, message type (0 silence, 1 general reject, 2 accept,
 // 3 reject), signal and length.
 #[repr(C)]
-#[derive(Drop)]
+#[derive(Clone, Copy)]
 pub struct Told {
     pub number: u8,
     pub label: u8,
@@ -126,7 +128,7 @@ pub struct Burst {
 
 // What the host is told of a delay: a number, whether one was reported, and tenths of a millisecond.
 #[repr(C)]
-#[derive(Drop)]
+#[derive(Clone, Copy)]
 pub struct Heard {
     pub number: u8,
     pub reported: bool,
@@ -134,7 +136,7 @@ pub struct Heard {
 }
 
 // What the host is told of how an endpoint stands: a number, the state, the channel and the far SEID.
-#[derive(Drop)]
+#[derive(Clone, Copy)]
 pub struct Standing {
     pub number: u8,
     pub state: State,

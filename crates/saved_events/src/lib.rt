@@ -1,4 +1,6 @@
 // Link events over the records of a saved connection.
+#![tactic(auto)]
+
 ghost use Rattle.std.specs.Prelude.{◌≡◌, length};
 ghost use Rattle.rules.specs.Book.{book_number, book_of};
 ghost use Rattle.saved.specs.Held.{Held};
@@ -29,8 +31,8 @@ pub fn up(records: &mut [u8], count: usize) -> u8
 
 // Channel down for one of our SEIDs: its endpoint becomes idle, else 10 if it has no channel.
 pub fn down(book: &[u8], records: &mut [u8], seid: OurSeid) -> u8
-    requires fact_1 { book_number book.now ≡ 0 }
-    requires fact_2 { Held (length (book_of book.now)) records.old }
+    requires book_right { book_number book.now ≡ 0 }
+    requires records_held { Held (length (book_of book.now)) records.old }
     ensures { ◌≡◌ {A = MovedRecords} (record { number = result; records = records.new })
         (downed seid (book_of book.now) records.old) }
 {

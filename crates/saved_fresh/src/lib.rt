@@ -1,4 +1,6 @@
 // The records of a fresh connection: every endpoint of the book idle.
+#![tactic(auto)]
+
 ghost use Rattle.std.specs.Prelude.{◌≡◌, ◌*◌, ◌≤◌, length};
 ghost use Rattle.rules.specs.Book.{book_number, book_of};
 ghost use Rattle.rules.specs.Endpoints.{fresh_connection};

@@ -1,4 +1,6 @@
 // The room of a gathering.
+#![tactic(auto)]
+
 ghost use Rattle.std.specs.Prelude.{◌≡◌, ◌&&◌, length, leb, ltb};
 ghost use Rattle.rules.specs.Saved.{gathering_room};
 ghost use Rattle.saved_gathering.specs.Room.{room_legal};

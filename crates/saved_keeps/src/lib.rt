@@ -1,5 +1,7 @@
 // What an endpoint keeps: nothing while it is idle, and else a far SEID, a configuration that could have been stored, and a delay
 // only where one can be reported.
+#![tactic(auto)]
+
 ghost use Rattle.std.specs.Prelude.{◌≡◌, not, ◌&&◌, ◌||◌, eqb};
 ghost use Rattle.rules.specs.Elements.{items, has};
 ghost use Rattle.rules.specs.Book.{is_source};

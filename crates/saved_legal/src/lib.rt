@@ -1,5 +1,7 @@
 // Whether a saved connection is one that the host may hand over, for octets of any length: number 12 where not. One pass over the
 // book and the records, of which there must be as many.
+#![tactic(auto)]
+
 mod records;
 
 ghost use Rattle.std.specs.Prelude.{◌≡◌};

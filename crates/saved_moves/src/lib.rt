@@ -1,4 +1,6 @@
 // Moves of one endpoint's head, by value. An enum in a field is not stored to, so each writes the struct anew.
+#![tactic(auto)]
+
 ghost use Rattle.std.specs.Prelude.{◌≡◌};
 ghost use Rattle.rules.specs.Endpoints.{idle_head, in_state, with_channel, with_delay, settled_by, opened as openedBy};
 ghost use Rattle.rules.specs.declared.Channel.TheVariants.{Up};

@@ -1,10 +1,13 @@
 // Tests of an endpoint's state and channel and of a far SEID.
+#![tactic(auto)]
+
 ghost use Rattle.std.specs.Prelude.{◌≡◌};
 ghost use Rattle.rules.specs.Endpoints.{is_idle, is_absent, is_awaited, is_up, far_right};
 ghost use Rattle.rules.specs.Commands.{is_configured, is_open, is_streaming, is_set};
 
 use rules::{Channel, FarSeid, State};
 
+#[tactic(auto, unfolding(rules::specs::Endpoints::is_idle))]
 pub fn is_idle(state: State) -> bool
     ensures { result ≡ is_idle state }
 {
@@ -18,6 +21,7 @@ pub fn is_idle(state: State) -> bool
     }
 }
 
+#[tactic(auto, unfolding(rules::specs::Commands::is_configured))]
 pub fn is_configured(state: State) -> bool
     ensures { result ≡ is_configured state }
 {
@@ -31,6 +35,7 @@ pub fn is_configured(state: State) -> bool
     }
 }
 
+#[tactic(auto, unfolding(rules::specs::Commands::is_open))]
 pub fn is_open(state: State) -> bool
     ensures { result ≡ is_open state }
 {
@@ -44,6 +49,7 @@ pub fn is_open(state: State) -> bool
     }
 }
 
+#[tactic(auto, unfolding(rules::specs::Commands::is_streaming))]
 pub fn is_streaming(state: State) -> bool
     ensures { result ≡ is_streaming state }
 {
@@ -58,6 +64,7 @@ pub fn is_streaming(state: State) -> bool
 }
 
 // Configured, open or streaming.
+#[tactic(auto, unfolding(rules::specs::Commands::is_set, rules::specs::Commands::is_configured, rules::specs::Commands::is_open, rules::specs::Commands::is_streaming))]
 pub fn is_set(state: State) -> bool
     ensures { result ≡ is_set state }
 {
@@ -71,6 +78,7 @@ pub fn is_set(state: State) -> bool
     }
 }
 
+#[tactic(auto, unfolding(rules::specs::Endpoints::is_absent))]
 pub fn is_absent(channel: Channel) -> bool
     ensures { result ≡ is_absent channel }
 {
@@ -81,6 +89,7 @@ pub fn is_absent(channel: Channel) -> bool
     }
 }
 
+#[tactic(auto, unfolding(rules::specs::Endpoints::is_awaited))]
 pub fn is_awaited(channel: Channel) -> bool
     ensures { result ≡ is_awaited channel }
 {
@@ -91,6 +100,7 @@ pub fn is_awaited(channel: Channel) -> bool
     }
 }
 
+#[tactic(auto, unfolding(rules::specs::Endpoints::is_up))]
 pub fn is_up(channel: Channel) -> bool
     ensures { result ≡ is_up channel }
 {

@@ -1,0 +1,60 @@
+-- `reconfigure` meets its contract: by what the check of the elements finds, and what is said and written is a law of `Anew`.
+use Prim.Native.Nat.{ℕ}
+use mathlib.Core.Path.{◌≡◌, sym, ap, subst, ◌∙◌}
+use mathlib.Core.List.{List}
+use native.Mathlib.Nat.{le_trans}
+use lib.Dec.{lit≤}
+use lib.ListN.{take, drop}
+use Rattle.rules.specs.Elements.{items}
+use Rattle.rules.specs.declared.Rule.TheVariants.{Reconfiguring}
+use Rattle.elements_reader.specs.Orders.{TransportFirst}
+use Rattle.octets.specs.Patch.{part}
+use Rattle.elements.specs.Walks.{check_of}
+use Rattle.commands_checks.proofs.Meeting.{stands}
+use Rattle.commands_set.proofs.Doings.{listed}
+use Rattle.commands_set.proofs.Anew.{renews, fault_refused, anew_moves}
+use Rattle.commands_set.proofs.renewals.reconfigure.Goals as goal
+use Rattle.commands_set.proofs.renewals.reconfigure.Goals.{After-check-walked, After-part, After-slice_known-2-1}
+
+-- ---- What is known on the way
+
+found : (c : After-check-walked)
+    → c.check-walked.result
+    ≡ check_of Reconfiguring (items (take §2.args.at.size (drop §2.args.at.from §2.args.book.now))) §2.args.payload.now 1
+unfolding part
+found c =
+    c.check-walked.ensures
+    ∙ ap (λ (l : List ℕ). check_of Reconfiguring (items l) §2.args.payload.now 1) c.part.ensures
+
+pub part-requires : goal.part-requires
+part-requires c =
+    (stands c.requires).placed.inside
+
+pub check-walked-requires : goal.check-walked-requires
+unfolding part
+check-walked-requires c =
+    (subst TransportFirst (sym c.part.ensures) (listed c.requires), le_trans c.requires.serves.short (lit≤ tt))
+
+pub rejected_element-requires : goal.rejected_element-requires
+rejected_element-requires c =
+    le_trans (lit≤ tt) c.requires.serves.room
+
+pub get-h-requires : goal.get-h-requires
+get-h-requires c =
+    (stands (start_of (goal.at.get-h-requires c).After-slice_known-2-1).requires).inside
+
+pub renew-requires : goal.renew-requires
+unfolding part
+renew-requires c =
+    renews (start_of (goal.at.renew-requires c).After-slice_known-2-1).requires c.get-h.ensures
+    (sym (found (goal.at.renew-requires c).After-part) ∙ c.??At_match_keys2.walked2.given.1)
+
+pub returns-in-Failed : goal.returns-in-Failed
+returns-in-Failed c =
+    fault_refused c.requires (sym (found (goal.at.returns-in-Failed c).After-check-walked) ∙ c.in-Failed.is)
+    (c.rejected_element.ensures.said, c.rejected_element.ensures.reply)
+
+pub returns-in-Clean : goal.returns-in-Clean
+returns-in-Clean c =
+    anew_moves (start_of (goal.at.returns-in-Clean c).After-slice_known-2-1).requires (sym (found (goal.at.returns-in-Clean c).After-part) ∙ c.??At_match_keys2.walked2.given.1) c.get-h.ensures
+    c.accepted.ensures c.renew.ensures

@@ -1,0 +1,95 @@
+-- `set_configuration` meets its contract: each way out has passed the checks before it, and what it says and writes is a law of
+-- `Sets`.
+use Prim.Native.Nat.{ℕ, ◌-◌, ◌≤◌}
+use native.Mathlib.Nat.{le_trans}
+use native.Mathlib.Omega.{arith}
+use mathlib.Core.Path.{◌≡◌, refl, sym, ap, subst, ◌∙◌}
+use mathlib.Core.List.{List}
+use mathlib.Core.Bool.{true}
+use lib.Dec.{lit≤}
+use lib.ListN.{length, take, drop, get_or, length-drop}
+use lib.Seq.{take_all}
+use borrow.Author.Tests.{not-true, not-false}
+use Rattle.rules.specs.Elements.{items, could_store}
+use Rattle.rules.specs.Endpoints.{far_right}
+use Rattle.rules.specs.Commands.{far_in}
+use Rattle.elements_reader.specs.Orders.{TransportFirst}
+use Rattle.octets.specs.Patch.{part}
+use Rattle.commands_checks.proofs.Meeting.{stands}
+use Rattle.commands_set.proofs.Doings.{listed}
+use Rattle.commands_set.proofs.Sets.{two, could_few, far_refused, whole_moves}
+use Rattle.commands_set.proofs.settings.set_configuration.Goals as goal
+use Rattle.commands_set.proofs.settings.set_configuration.Goals.{After-could_store, After-far_right, After-shared_slice_known-3-1, Else-not-could_store, Else-not-far_right}
+
+-- ---- What is known on the way
+
+right : (c : Else-not-far_right) → far_right (far_in (get_or §1.args.payload.now 1 0)) ≡ true
+unfolding far_in
+right c = sym c.far_right.ensures ∙ not-false _ c.if-not-far_right.false-raw
+
+-- the elements, as a part of the payload
+elements : (p : List ℕ) → part 2 (length p - 2) p ≡ drop 2 p
+unfolding part
+elements p = take_all (length p - 2) (drop 2 p) (rw length-drop (omega arith))
+
+could : (c : Else-not-could_store)
+    → could_store (items (take §2.args.at.size (drop §2.args.at.from §2.args.book.now))) (drop 2 §2.args.payload.now) ≡ true
+unfolding part
+could c =
+    ap (λ (l : List ℕ). could_store (items l) (drop 2 §2.args.payload.now)) (sym c.part.ensures)
+    ∙ sym c.could_store.ensures ∙ not-false _ c.if-not-could_store.false-raw
+
+pub bounds-payload-1 : goal.bounds-payload-1
+bounds-payload-1 c =
+    two c.requires
+
+pub rejected_for-requires : goal.rejected_for-requires
+rejected_for-requires c =
+    le_trans (lit≤ tt) c.requires.serves.room
+
+pub returns-then-not-far_right : goal.returns-then-not-far_right
+unfolding far_in
+returns-then-not-far_right c =
+    far_refused c.requires (sym c.far_right.ensures ∙ not-true _ c.if-not-far_right.true-raw)
+    (c.rejected_for.ensures.said, c.rejected_for.ensures.reply)
+
+pub part-requires : goal.part-requires
+part-requires c =
+    (stands c.requires).placed.inside
+
+pub could_store-requires : goal.could_store-requires
+unfolding part
+could_store-requires c =
+    subst TransportFirst (sym c.part.ensures) (listed c.requires)
+
+pub set_picked-requires : goal.set_picked-requires
+unfolding far_in
+set_picked-requires c =
+    (c.requires, refl, right (goal.at.set_picked-requires c).Else-not-far_right)
+
+pub get-h-requires : goal.get-h-requires
+get-h-requires c =
+    (stands (start_of (goal.at.get-h-requires c).After-shared_slice_known-3-1).requires).inside
+
+pub overflow_sub-payload : goal.overflow_sub-payload
+overflow_sub-payload c =
+    two (start_of (goal.at.overflow_sub-payload c).After-shared_slice_known-3-1).requires
+
+pub part-requires-2 : goal.part-requires-2
+part-requires-2 c =
+    omega (arith, two (start_of (goal.at.part-requires-2 c).After-shared_slice_known-3-1).requires)
+
+pub keep_whole-requires : goal.keep_whole-requires
+keep_whole-requires c =
+    let start = start_of (goal.at.keep_whole-requires c).After-shared_slice_known-3-1 in (
+      (stands start.pre).inside,
+      subst (λ (l : List ℕ). length l ≤ 64) (sym (c.part-2.ensures ∙ elements start.args.payload.now))
+          (could_few start.pre (could (goal.at.keep_whole-requires c).After-could_store)),
+    )
+
+pub returns : goal.returns
+unfolding far_in
+returns c =
+    let start = start_of (goal.at.returns c).After-shared_slice_known-3-1 in
+    whole_moves start.pre (right (goal.at.returns c).After-far_right) (could (goal.at.returns c).After-could_store) (c.part-2.ensures ∙ elements start.args.payload.now)
+    c.get-h.ensures c.settled.ensures c.accepted.ensures c.keep_whole.ensures

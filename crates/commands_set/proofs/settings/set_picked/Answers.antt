@@ -1,0 +1,67 @@
+-- `set_picked` meets its contract: each way out has passed the checks before it, and what it says and writes is a law of
+-- `Sets`.
+use Prim.Native.Nat.{ℕ}
+use mathlib.Core.Path.{◌≡◌, sym, ap, subst, ◌∙◌}
+use mathlib.Core.List.{List}
+use mathlib.Core.Bool.{true}
+use native.Mathlib.Nat.{le_trans}
+use lib.Dec.{lit≤}
+use lib.ListN.{take, drop, get_or}
+use Rattle.rules.specs.Elements.{items}
+use Rattle.rules.specs.Endpoints.{far_right, settled_by}
+use Rattle.rules.specs.Commands.{far_in}
+use Rattle.rules.specs.declared.Rule.TheVariants.{Setting}
+use Rattle.elements_reader.specs.Orders.{TransportFirst}
+use Rattle.octets.specs.Patch.{part}
+use Rattle.elements.specs.Walks.{check_of}
+use Rattle.commands_checks.proofs.Meeting.{stands}
+use Rattle.commands_set.proofs.Doings.{listed}
+use Rattle.commands_set.proofs.Sets.{set_keeps, fault_refused, set_moves}
+use Rattle.commands_set.proofs.settings.set_picked.Goals as goal
+use Rattle.commands_set.proofs.settings.set_picked.Goals.{After-check-walked, After-part, After-slice_known-2-1, Start}
+
+-- ---- What is known on the way
+
+-- the far SEID is right, in the words of the call
+right : (c : Start) → far_right (far_in (get_or c.args.payload.now 1 0)) ≡ true
+right c = ap far_right (sym c.requires.1) ∙ c.requires.2
+
+found : (c : After-check-walked)
+    → c.check-walked.result
+    ≡ check_of Setting (items (take §2.args.at.size (drop §2.args.at.from §2.args.book.now))) §2.args.payload.now 2
+unfolding part
+found c =
+    c.check-walked.ensures ∙ ap (λ (l : List ℕ). check_of Setting (items l) §2.args.payload.now 2) c.part.ensures
+
+pub part-requires : goal.part-requires
+part-requires c =
+    (stands c.requires.0).placed.inside
+
+pub check-walked-requires : goal.check-walked-requires
+unfolding part
+check-walked-requires c =
+    (subst TransportFirst (sym c.part.ensures) (listed c.requires.0), le_trans c.requires.0.serves.short (lit≤ tt))
+
+pub rejected_element-requires : goal.rejected_element-requires
+rejected_element-requires c =
+    le_trans (lit≤ tt) c.requires.0.serves.room
+
+pub get-h-requires : goal.get-h-requires
+get-h-requires c =
+    (stands (start_of (goal.at.get-h-requires c).After-slice_known-2-1).requires.0).inside
+
+pub keep-requires : goal.keep-requires
+keep-requires c =
+    set_keeps (start_of (goal.at.keep-requires c).After-slice_known-2-1).requires.0 (sym (found (goal.at.keep-requires c).After-part) ∙ c.??At_match_keys2.walked2.given.1) c.none.ensures
+
+pub returns-in-Failed : goal.returns-in-Failed
+returns-in-Failed c =
+    fault_refused c.pre.0 (right (goal.at.returns-in-Failed c).Start) (sym (found (goal.at.returns-in-Failed c).After-check-walked) ∙ c.in-Failed.is)
+    (c.rejected_element.ensures.said, c.rejected_element.ensures.reply)
+
+pub returns-in-Clean : goal.returns-in-Clean
+returns-in-Clean c =
+    let start = start_of (goal.at.returns-in-Clean c).After-slice_known-2-1 in
+    set_moves start.pre.0 (right start) (sym (found (goal.at.returns-in-Clean c).After-part) ∙ c.??At_match_keys2.walked2.given.1) c.none.ensures
+    c.get-h.ensures (c.settled.ensures ∙ ap (λ f. settled_by f c.get-h.result) start.pre.1)
+    c.accepted.ensures c.keep.ensures
