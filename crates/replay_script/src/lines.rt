@@ -18,6 +18,7 @@ pub fn first(s: &[u8], octet: u8) -> usize
 }
 
 // Blank, tab or carriage return.
+#[tactic(auto, unfolding(crate::specs::Lines::is_blank))]
 fn blank(octet: u8) -> bool
     ensures { result ≡ is_blank octet }
 {
@@ -85,6 +86,7 @@ pub fn rest(s: &[u8], at: usize) -> &[u8]
 }
 
 // What stands from a place on, up to the first `mark` or to the end.
+#[tactic(auto, using(crate::proofs::Within::first_within), unfolding(crate::specs::Lines::part_at))]
 pub fn part(s: &[u8], at: usize, mark: u8) -> &[u8]
     ensures { result.now ≡ part_at mark at s.now }
 {
@@ -101,6 +103,7 @@ pub fn word(s: &[u8], at: usize) -> &[u8]
 }
 
 // The place of the word behind the one at `at`.
+#[tactic(auto, unfolding(crate::specs::Lines::next_at))]
 pub fn next(s: &[u8], at: usize) -> usize
     ensures { result ≡ next_at at s.now }
 {

@@ -24,6 +24,7 @@ fn named(table: &[u8], name: &[u8]) -> usize
 }
 
 // What is said under a name; nothing where the table does not have it.
+#[tactic(auto, unfolding(crate::specs::Tables::word_said))]
 pub fn said<'a>(table: &'a [u8], name: &[u8]) -> &'a [u8]
     ensures { result.now ≡ word_said name.now table.now }
 {
@@ -32,6 +33,7 @@ pub fn said<'a>(table: &'a [u8], name: &[u8]) -> &'a [u8]
 }
 
 // The octet that is said under a name; NONE where the table does not have it.
+#[tactic(auto, unfolding(crate::specs::Tables::value_of, crate::specs::Tables::front_of))]
 pub fn value(table: &[u8], name: &[u8]) -> usize
     ensures { result ≡ value_of name.now table.now }
 {

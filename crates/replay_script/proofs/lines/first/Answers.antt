@@ -1,5 +1,5 @@
 -- `first` meets its contract: after i turns the first place is i behind the first place of what is left.
-use Prim.Native.Nat.{ℕ, suc, ◌+◌, ◌-◌, ◌≤◌, ◌<◌}
+use Prim.Native.Nat.{ℕ, suc, ◌+◌, ◌<◌}
 use mathlib.Core.Path.{◌≡◌, ap, ◌∙◌}
 use mathlib.Core.List.{List}
 use mathlib.Core.Bool.{Bool}
@@ -11,8 +11,7 @@ use lib.Dec.{eqb}
 use borrow.Author.Tests.{eq-eqb, ne_eqb}
 use Rattle.rules.specs.Octets.{if◌then◌else◌}
 use Rattle.replay_script.specs.Lines.{first_of}
-use Rattle.replay_script.proofs.lines.first.Statement.{statement}
-use Rattle.replay_script.proofs.lines.first.Tie as tie
+use Rattle.replay_script.proofs.lines.first.Goals as goal
 
 begun : (c : ℕ) (s : List ℕ) → first_of c s ≡ 0 + first_of c (drop 0 s)
 begun c s = omega arith
@@ -43,52 +42,18 @@ at_end c s i n = rw (n, drop-length s)
 nowhere : (c : ℕ) (s : List ℕ) (i : ℕ) → i ≡ length s → first_of c s ≡ i + first_of c (drop i s) → i ≡ first_of c s
 nowhere c s i n e = omega (arith, e, at_end c s i n)
 
-abbrev invariant-loop : tie.invariant-loop
-invariant-loop s octet i₀ i = (i ≤ length s) × (first_of octet s ≡ i + first_of octet (drop i s))
+pub loop-i-init : goal.loop-i-init
+loop-i-init c =
+    (omega arith, begun c.args.octet c.args.s.now)
 
-abbrev decreases-loop : tie.decreases-loop
-decreases-loop s octet i₀ i = length s - i
+pub returns-then-s-i : goal.returns-then-s-i
+returns-then-s-i c =
+    here c.args.octet c.args.s.now c.loop-i.i (omega arith) c.loop-i.invariant.1 c.if-s-i.true
 
-loop-holds : tie.Need-loop-init invariant-loop decreases-loop
-loop-holds c = (omega arith, begun c.args.octet c.args.s.now)
+pub loop-i-preserved : goal.loop-i-preserved
+loop-i-preserved c =
+    (omega arith, further c.args.octet c.args.s.now c.loop-i.i (omega arith) c.loop-i.invariant.1 c.if-s-i.false)
 
-shared-slice-read-if1 : tie.Need-shared-slice-read-if1 invariant-loop decreases-loop
-shared-slice-read-if1 c = omega arith
-
-returns : tie.Need-returns invariant-loop decreases-loop
+pub returns : goal.returns
 returns c =
-    let at-loop = c.before.before.before in
-    let args = at-loop.before.args in
-    here args.octet args.s.now at-loop.loop.i (omega arith) at-loop.loop.invariant.1 c.if1.true
-
-add-i : tie.Need-overflow-add-i invariant-loop decreases-loop
-add-i c = omega arith
-
-loop-less : tie.Need-loop-smaller invariant-loop decreases-loop
-loop-less c = omega arith
-
-loop-again : tie.Need-loop-preserved invariant-loop decreases-loop
-loop-again c =
-    let at-loop = c.before.before.before in
-    let args = at-loop.before.args in
-    (omega arith, further args.octet args.s.now at-loop.loop.i (omega arith) at-loop.loop.invariant.1 c.if1.false)
-
-returns-2 : tie.Need-returns-2 invariant-loop decreases-loop
-returns-2 c =
-    let at-loop = c.before in
-    let args = at-loop.before.args in
-    nowhere args.octet args.s.now at-loop.loop.i (omega arith) at-loop.loop.invariant.1
-
-pub first_spec : {M : Type 1} → statement M
-first_spec =
-    tie.close
-    (tie.spec
-    invariant-loop
-    decreases-loop
-    loop-holds
-    shared-slice-read-if1
-    returns
-    add-i
-    loop-less
-    loop-again
-    returns-2)
+    nowhere c.args.octet c.args.s.now c.loop-i.i (omega arith) c.loop-i.invariant.1

@@ -1,17 +1,15 @@
 -- `blanks` meets its contract: after i turns there are i more blanks than in front of what is left.
-use Prim.Native.Nat.{ℕ, suc, ◌+◌, ◌-◌, ◌≤◌, ◌<◌}
+use Prim.Native.Nat.{ℕ, suc, ◌+◌, ◌<◌}
 use mathlib.Core.Path.{◌≡◌, sym, ◌∙◌}
 use mathlib.Core.List.{List}
 use mathlib.Core.Bool.{Bool, true, false}
 use native.Mathlib.Numerals.{add-one}
 use native.Mathlib.Omega.{arith}
-use borrow.Author.Rules.{rules}
 use lib.ListN.{length, drop, get_or}
 use lib.Seq.{drop-cons, drop-length}
 use Rattle.rules.specs.Octets.{if◌then◌else◌}
 use Rattle.replay_script.specs.Lines.{is_blank, blanks_of}
-use Rattle.replay_script.proofs.lines.blanks.Statement.{statement}
-use Rattle.replay_script.proofs.lines.blanks.Tie as tie
+use Rattle.replay_script.proofs.lines.blanks.Goals as goal
 
 begun : (s : List ℕ) → blanks_of s ≡ 0 + blanks_of (drop 0 s)
 begun s = omega arith
@@ -43,24 +41,16 @@ at_end s i n = rw (n, drop-length s)
 all_blank : (s : List ℕ) (i : ℕ) → i ≡ length s → blanks_of s ≡ i + blanks_of (drop i s) → i ≡ blanks_of s
 all_blank s i n e = omega (arith, e, at_end s i n)
 
-abbrev invariant-loop : tie.invariant-loop
-invariant-loop s i₀ i = (i ≤ length s) × (blanks_of s ≡ i + blanks_of (drop i s))
+pub loop-i-preserved : goal.loop-i-preserved
+loop-i-preserved c = (
+  omega arith,
+  further c.args.s.now c.loop-i.i c.blank.result (omega arith) c.loop-i.invariant.1 c.blank.ensures c.if-blank.true,
+)
 
-abbrev decreases-loop : tie.decreases-loop
-decreases-loop s i₀ i = length s - i
+pub returns-else-blank : goal.returns-else-blank
+returns-else-blank c =
+    here c.args.s.now c.loop-i.i c.blank.result (omega arith) c.loop-i.invariant.1 c.blank.ensures c.if-blank.false
 
-pub blanks-spec : {M : Type 1} → statement M
-blanks-spec =
-    tie.close
-    (tie.spec invariant-loop decreases-loop
-    (λ c. (omega arith, begun c.before.args.s.now))
-    (λ c. omega arith) (λ c κs. search rules) (λ c. omega arith) (λ c. omega arith)
-    (λ c. let at = c.before.before.before.before in (
-      omega arith,
-      further at.before.before.args.s.now at.loop.i c.before.blank.result (omega arith) at.loop.invariant.1
-          c.before.blank.ensures c.if1.true,
-    ))
-    (λ c. let at = c.before.before.before.before in
-    here at.before.before.args.s.now at.loop.i c.before.blank.result (omega arith) at.loop.invariant.1
-    c.before.blank.ensures c.if1.false)
-    (λ c. all_blank c.before.before.before.args.s.now c.before.loop.i (omega arith) c.before.loop.invariant.1))
+pub returns : goal.returns
+returns c =
+    all_blank c.args.s.now c.loop-i.i (omega arith) c.loop-i.invariant.1

@@ -1,19 +1,17 @@
 -- `read` meets its contract: after k turns the first k octets stand at the front.
-use Prim.Native.Nat.{ℕ, zero, suc, ◌+◌, ◌-◌, ◌%◌, ◌≤◌, ◌<◌}
+use Prim.Native.Nat.{ℕ, zero, suc, ◌+◌, ◌%◌, ◌≤◌, ◌<◌}
 use mathlib.Core.Path.{◌≡◌, refl, sym, ap, ◌∙◌}
 use mathlib.Core.List.{List, [], ◌∷◌, ◌++◌}
 use mathlib.Core.Bool.{Bool}
 use native.Mathlib.Nat.{zero-add}
 use native.Mathlib.Numerals.{add-one}
 use native.Mathlib.Omega.{arith}
-use borrow.Author.Rules.{rules}
 use borrow.Author.Tests.{lt-ltb, le-ltb}
 use lib.ListN.{length, drop, get_or, set, length-set, length-append}
 use lib.Seq.{drop-cons, set_at, append_snoc}
 use Rattle.octets.specs.Patch.{patch}
 use Rattle.replay_hexes.specs.Hexes.{octet_at, place_of, octets_read, read_into}
-use Rattle.replay_hexes.proofs.read.Statement.{statement}
-use Rattle.replay_hexes.proofs.read.Tie as tie
+use Rattle.replay_hexes.proofs.read.Goals as goal
 
 read_length : (t : Bool) (s : List ℕ) (k : ℕ) → length (octets_read t s k) ≡ k
 unfolding octets_read
@@ -63,83 +61,33 @@ all_read : (t : Bool) (s d₀ d : List ℕ) (n k : ℕ) → n ≤ 8192 → n ≤
 unfolding read_into
 all_read t s d₀ d n k g h e z = rw (le-ltb 8192 n g, le-ltb (length d₀) n h) (e ∙ ap (λ (m : ℕ). patch 0 (octets_read t s m) d₀) z)
 
-abbrev invariant-loop : tie.invariant-loop
-invariant-loop s parted n dst₀ k₀ dst k = (dst ≡ patch 0 (octets_read parted s k) dst₀) × (k ≤ n) × (length dst ≡ length dst₀)
+pub returns-then-n-gt8192 : goal.returns-then-n-gt8192
+returns-then-n-gt8192 c =
+    too_many c.args.parted c.args.s.now c.args.dst.now c.args.n c.if-n-gt8192.true
 
-abbrev decreases-loop : tie.decreases-loop
-decreases-loop s parted n dst₀ k₀ dst k = n - k
+pub returns-then-dst-n : goal.returns-then-dst-n
+returns-then-dst-n c =
+    no_room c.args.parted c.args.s.now c.args.dst.now c.args.n c.if-n-gt8192.false c.if-dst-n.true
 
-returns : tie.Need-returns invariant-loop decreases-loop
-returns c =
-    let args = c.before.before.before.args in
-    too_many args.parted args.s.now args.dst.now args.n c.if1.true
+pub loop-k-init : goal.loop-k-init
+loop-k-init c =
+    (begun c.args.parted c.args.s.now c.args.dst.now, omega arith, refl)
 
-returns-2 : tie.Need-returns-2 invariant-loop decreases-loop
-returns-2 c =
-    let args = c.before.before.before.before.args in
-    no_room args.parted args.s.now args.dst.now args.n c.before.if1.false c.if2.true
-
-loop-holds : tie.Need-loop-init invariant-loop decreases-loop
-loop-holds c =
-    let args = c.before.before.before.before.args in
-    (begun args.parted args.s.now args.dst.now, omega arith, refl)
-
-place-requires : tie.Need-place-requires invariant-loop decreases-loop
-place-requires c κs = omega arith
-
-octet-at-requires : tie.Need-octet-at-requires invariant-loop decreases-loop
-octet-at-requires c κs = search rules
-
-cast-dst : tie.Need-overflow-cast-dst invariant-loop decreases-loop
-cast-dst c = omega arith
-
-slice-write-dst : tie.Need-slice-write-dst invariant-loop decreases-loop
-slice-write-dst c = omega arith
-
-add-k : tie.Need-overflow-add-k invariant-loop decreases-loop
-add-k c = omega arith
-
-loop-less : tie.Need-loop-smaller invariant-loop decreases-loop
-loop-less c = omega arith
-
-loop-again : tie.Need-loop-preserved invariant-loop decreases-loop
-loop-again c =
-    let places = c.before in
-    let at-loop = places.before.before in
-    let args = at-loop.before.before.before.before.before.args in (
-      turn args.parted args.s.now args.dst.now at-loop.loop.dst at-loop.loop.k places.place.result
-          c.octet-at.result at-loop.loop.invariant.0 (omega arith) places.place.ensures c.octet-at.ensures,
+pub loop-k-preserved : goal.loop-k-preserved
+loop-k-preserved c =
+    (
+      turn c.args.parted c.args.s.now c.args.dst.now c.loop-k.dst c.loop-k.k c.place.result
+          c.octet_at.result c.loop-k.invariant.0 (omega arith) c.place.ensures c.octet_at.ensures,
       omega arith,
-      simp length-set at-loop.loop.invariant.2,
+      simp length-set c.loop-k.invariant.2,
     )
 
-same_length : tie.Need-same-length invariant-loop decreases-loop
-same_length c = c.before.loop.invariant.2
+pub shape_of-dst : goal.shape_of-dst
+shape_of-dst c =
+    c.loop-k.invariant.2
 
-returns-3 : tie.Need-returns-3 invariant-loop decreases-loop
-returns-3 c =
-    let at-loop = c.before in
-    let fits = at-loop.before in
-    let args = fits.before.before.before.before.args in
-    all_read args.parted args.s.now args.dst.now at-loop.loop.dst args.n at-loop.loop.k
-    fits.before.if1.false
-    fits.if2.false at-loop.loop.invariant.0 (omega arith)
-
-pub read_spec : {M : Type 1} → statement M
-read_spec =
-    tie.close
-    (tie.spec
-    invariant-loop
-    decreases-loop
-    returns
-    returns-2
-    loop-holds
-    place-requires
-    octet-at-requires
-    cast-dst
-    slice-write-dst
-    add-k
-    loop-less
-    loop-again
-    same_length
-    returns-3)
+pub returns : goal.returns
+returns c =
+    all_read c.args.parted c.args.s.now c.args.dst.now c.loop-k.dst c.args.n c.loop-k.k
+    c.if-n-gt8192.false
+    c.if-dst-n.false c.loop-k.invariant.0 (omega arith)
