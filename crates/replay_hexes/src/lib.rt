@@ -119,6 +119,7 @@ fn whole(length: usize, parted: bool) -> usize
 }
 
 // How many octets `s` spells; NONE where it is not all octets, or is longer than a line.
+#[tactic(auto, unfolding(crate::specs::Hexes::hex_count, crate::specs::Hexes::whole_of, crate::specs::Hexes::all_there))]
 pub fn count(s: &[u8], parted: bool) -> usize
     ensures { result ≡ hex_count parted s.now }
 {
@@ -140,6 +141,7 @@ pub fn count(s: &[u8], parted: bool) -> usize
 }
 
 // Writes the first n octets that `s` spells to the front of `dst`, if they fit; a place that spells none counts as 0.
+#[tactic(auto, unfolding(crate::specs::Hexes::read_into, crate::specs::Hexes::octets_read, octets::specs::Patch::patch))]
 pub fn read(s: &[u8], parted: bool, n: usize, dst: &mut [u8])
     ensures { dst.new ≡ read_into parted s.now n dst.old }
 {

@@ -6,6 +6,7 @@ use crate::lines::{part, rest};
 use crate::numbers::{NONE, wide};
 
 // The place of the first line of a name; the length where there is none.
+#[tactic(auto, unfolding(crate::specs::Tables::named_of, crate::specs::Lines::part_at))]
 fn named(table: &[u8], name: &[u8]) -> usize
     ensures { result ≡ named_of name.now true table.now }
 {

@@ -1,3 +1,4 @@
+-- `count` meets its contract: after each turn all octets are there if the first k are.
 use Prim.Native.Nat.{◌≤◌}
 use mathlib.Core.Path.{◌≡◌}
 use Rattle.replay_hexes.specs.Hexes.{all_there}

@@ -1,3 +1,4 @@
+-- `blanks` meets its contract: after i turns there are i more blanks than in front of what is left.
 use Prim.Native.Nat.{◌+◌, ◌-◌, ◌≤◌}
 use mathlib.Core.Path.{◌≡◌}
 use lib.ListN.{length, drop}

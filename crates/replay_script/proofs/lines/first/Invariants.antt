@@ -1,3 +1,4 @@
+-- `first` meets its contract: after i turns the first place is i behind the first place of what is left.
 use Prim.Native.Nat.{◌+◌, ◌-◌, ◌≤◌}
 use mathlib.Core.Path.{◌≡◌}
 use lib.ListN.{length, drop}

@@ -1,3 +1,4 @@
+-- `kept` meets its contract: after each turn as much is kept of the first n octets as of all.
 use Prim.Native.Nat.{◌≤◌}
 use mathlib.Core.Path.{◌≡◌}
 use lib.ListN.{length}

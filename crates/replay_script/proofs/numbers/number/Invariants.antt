@@ -1,3 +1,4 @@
+-- `number` meets its contract: after i digits the number is what those left make of the value so far.
 use Prim.Native.Nat.{◌-◌, ◌≤◌}
 use mathlib.Core.Path.{◌≡◌}
 use lib.ListN.{length, drop}

@@ -1,3 +1,4 @@
+-- `named` meets its contract: after i turns the place is i behind the place in what is left.
 use Prim.Native.Nat.{◌+◌, ◌-◌, ◌≤◌}
 use mathlib.Core.Path.{◌≡◌}
 use mathlib.Core.Bool.{true}
