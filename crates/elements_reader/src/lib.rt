@@ -1,7 +1,6 @@
 // Reading a list of elements, of a book, a command or a stored configuration: a reader keeps the list and its place in it, and
-// tells what stands there. Every walk over a list gets to its elements by `element_at`. A function over a struct that holds a
-// reference is proved by hand, so there are two, both thin: `look` takes a reader, and `element_at` makes one at a place that
-// the walk has moved on to. The work is `standing`'s.
+// tells what stands there. Every walk over a list gets to its elements by `element_at`. There are two ways in, both thin: `look`
+// takes a reader, and `element_at` makes one at a place that the walk has moved on to. The work is `standing`'s.
 #![tactic(auto)]
 
 ghost use Rattle.std.specs.Prelude.{◌≡◌};

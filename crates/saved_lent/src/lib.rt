@@ -1,6 +1,5 @@
-// One record's head, lent: what a channel's coming up or going down makes of it is written where the caller keeps it. A function
-// with a reference to a struct is proved by a walk of its code, so there are two, without a branch, and other callers use
-// `switched`.
+// One record's head, lent: what a channel's coming up or going down makes of it is written where the caller keeps it. Other callers
+// hand a head over and use `switched`.
 #![tactic(auto)]
 
 ghost use Rattle.std.specs.Prelude.{◌≡◌};

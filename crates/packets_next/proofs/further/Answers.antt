@@ -122,7 +122,7 @@ returns-then-room-eq0 c =
 pub returns-then-packet-room : goal.returns-then-packet-room
 returns-then-packet-room c =
     other_label c.args.room.now c.args.packet.now c.args.last c.if-room-eq0.false
-    (omega (arith, c.shared_slice_known-4-1.given 0)) c.if-packet-room.true
+    (omega (arith, c.type_inv.packet 0)) c.if-packet-room.true
 
 pub returns-then-packet-room-2 : goal.returns-then-packet-room-2
 returns-then-packet-room-2 c =
@@ -134,7 +134,7 @@ overflow_add-gathered c =
     let f = found (goal.at.overflow_add-gathered c).Else-packet-room-2 in
     let few : c.gathered.result ≤ 512 =
     rw c.gathered.ensures (marked c.args.room.now f.right f.there).fits in
-    omega (arith, c.good.1.0.1)
+    omega arith
 
 pub returns-then-gathered-packet-gt512 : goal.returns-then-gathered-packet-gt512
 returns-then-gathered-packet-gt512 c =
@@ -143,15 +143,15 @@ returns-then-gathered-packet-gt512 c =
 
 pub overflow_cast-parts : goal.overflow_cast-parts
 overflow_cast-parts c =
-    omega (arith, c.shared_slice_known-8-1.given 5)
+    omega (arith, c.type_inv.room 5)
 
 pub overflow_add-parts : goal.overflow_add-parts
 overflow_add-parts c =
-    omega (arith, c.shared_slice_known-8-1.given 5)
+    omega (arith, c.type_inv.room 5)
 
 pub overflow_cast-count : goal.overflow_cast-count
 overflow_cast-count c =
-    omega (arith, c.shared_slice_known-9-1.given 4)
+    omega (arith, c.type_inv.room 4)
 
 pub returns-then-parts-count : goal.returns-then-parts-count
 returns-then-parts-count c =

@@ -45,4 +45,4 @@ returns-then-packet-gt514 c =
 
 pub returns : goal.returns
 returns c =
-    λ g. good g c.args.packet.now (omega arith) (omega arith) (omega (arith, c.shared_slice_known-3-1.given 0))
+    λ g. good g c.args.packet.now (omega arith) (omega arith) (omega (arith, c.type_inv.packet 0))

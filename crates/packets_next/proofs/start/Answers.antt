@@ -61,10 +61,10 @@ pub returns-then-packet-gt515 : goal.returns-then-packet-gt515
 returns-then-packet-gt515 c =
     λ g.
     long g c.args.packet.now c.if-packet-gt515.true (omega arith)
-    (omega (arith, c.shared_slice_known-1.given 1))
+    (omega (arith, c.type_inv.packet 1))
 
 pub returns : goal.returns
 returns c =
     λ g.
     good g c.args.packet.now (omega arith) (omega arith) (omega arith)
-    (omega (arith, c.shared_slice_known-1.given 1))
+    (omega (arith, c.type_inv.packet 1))

@@ -9,12 +9,10 @@ use Rattle.book.proofs.places.locate.Goals as goal
 use Rattle.book.proofs.places.locate.Goals.{In-loop-index}
 
 -- the entry at hand
-at_hand : (c : In-loop-index invariant-loop decreases-loop)
-    → RightEntry c.before.before.before.before.args.book.now c.before.loop.at
+at_hand : (c : In-loop-index)
+    → RightEntry c.args.book.now c.loop-index.at
 at_hand c =
-    let entries = c.before.before.count.result in
-    let here = c.before.loop in
-    first_entry (entries - (here.index + 1)) (entries - here.index) _ here.at (omega arith) here.invariant.2
+    first_entry (c.count-entries.result - (c.loop-index.index + 1)) (c.count-entries.result - c.loop-index.index) _ c.loop-index.at (omega arith) c.loop-index.invariant.2
 
 pub count-entries-requires : goal.count-entries-requires
 count-entries-requires c =
