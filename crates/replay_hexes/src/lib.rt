@@ -7,6 +7,7 @@ ghost use Rattle.replay_hexes.specs.Hexes.{digit_of, spelled, octet_at, place_of
 use replay_script::numbers::NONE;
 
 // The value of a digit; 16 where the octet is no digit.
+#[tactic(auto, unfolding(crate::specs::Hexes::digit_of))]
 fn digit(octet: u8) -> u8
     ensures { result ≡ digit_of octet }
 {
@@ -32,6 +33,7 @@ fn digit(octet: u8) -> u8
 }
 
 // The digit of a value below 16, in capitals.
+#[tactic(auto, unfolding(crate::specs::Hexes::spelled))]
 pub fn spell(value: u8) -> u8
     ensures { result ≡ spelled value }
 {
@@ -43,6 +45,7 @@ pub fn spell(value: u8) -> u8
 }
 
 // The octet whose two digits stand at a place; 256 where they are not there.
+#[tactic(auto, unfolding(crate::specs::Hexes::octet_at, crate::specs::Hexes::octet_of))]
 pub fn octet_at(s: &[u8], at: usize) -> u16
     ensures { result ≡ octet_at at s.now }
 {
@@ -64,6 +67,7 @@ pub fn octet_at(s: &[u8], at: usize) -> u16
 }
 
 // The place of octet number k.
+#[tactic(auto, unfolding(crate::specs::Hexes::place_of))]
 fn place(k: usize, parted: bool) -> usize
     requires { k ≤ 8192 }
     ensures { result ≡ place_of parted k }
@@ -75,6 +79,7 @@ fn place(k: usize, parted: bool) -> usize
 }
 
 // Whether octet number k is there, with a blank before it where they are parted.
+#[tactic(auto, unfolding(crate::specs::Hexes::is_there, crate::specs::Hexes::octet_at))]
 fn is_there(s: &[u8], parted: bool, k: usize) -> bool
     requires { k ≤ 8192 }
     ensures { result ≡ is_there parted s.now k }
@@ -93,6 +98,7 @@ fn is_there(s: &[u8], parted: bool, k: usize) -> bool
 }
 
 // How many octets so many digits and gaps are; NONE where it does not come out even.
+#[tactic(auto, unfolding(crate::specs::Hexes::whole_of))]
 fn whole(length: usize, parted: bool) -> usize
     requires { length ≤ 8191 }
     ensures { result ≡ whole_of parted length }
@@ -113,6 +119,7 @@ fn whole(length: usize, parted: bool) -> usize
 }
 
 // How many octets `s` spells; NONE where it is not all octets, or is longer than a line.
+#[tactic(auto, unfolding(crate::specs::Hexes::hex_count, crate::specs::Hexes::whole_of, crate::specs::Hexes::all_there))]
 pub fn count(s: &[u8], parted: bool) -> usize
     ensures { result ≡ hex_count parted s.now }
 {
@@ -134,6 +141,7 @@ pub fn count(s: &[u8], parted: bool) -> usize
 }
 
 // Writes the first n octets that `s` spells to the front of `dst`, if they fit; a place that spells none counts as 0.
+#[tactic(auto, unfolding(crate::specs::Hexes::read_into, crate::specs::Hexes::octets_read, octets::specs::Patch::patch))]
 pub fn read(s: &[u8], parted: bool, n: usize, dst: &mut [u8])
     ensures { dst.new ≡ read_into parted s.now n dst.old }
 {

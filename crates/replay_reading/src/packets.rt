@@ -33,6 +33,7 @@ fn octet(word: &[u8]) -> u16 {
 }
 
 // Reads packets; their octets go into `data`, one packet behind the other.
+#[tactic(auto, using(crate::proofs::Further::next_further_lem))]
 pub fn read(text: &[u8], data: &mut [u8]) -> Packets {
     let mut lengths = [0usize; MOST];
     let mut count = 0;

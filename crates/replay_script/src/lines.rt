@@ -4,6 +4,7 @@ ghost use Rattle.std.specs.Prelude.{◌≡◌, drop};
 ghost use Rattle.replay_script.specs.Lines.{first_of, is_blank, blanks_of, kept_of, step_in, part_at, word_at, next_at};
 
 // The place of the first `octet`, the length where there is none.
+#[tactic(auto, unfolding(crate::specs::Lines::first_of))]
 pub fn first(s: &[u8], octet: u8) -> usize
     ensures { result ≡ first_of octet s.now }
 {
@@ -18,6 +19,7 @@ pub fn first(s: &[u8], octet: u8) -> usize
 }
 
 // Blank, tab or carriage return.
+#[tactic(auto, unfolding(crate::specs::Lines::is_blank))]
 fn blank(octet: u8) -> bool
     ensures { result ≡ is_blank octet }
 {
@@ -31,6 +33,7 @@ fn blank(octet: u8) -> bool
 }
 
 // How many blanks stand at the front.
+#[tactic(auto, unfolding(crate::specs::Lines::blanks_of))]
 fn blanks(s: &[u8]) -> usize
     ensures { result ≡ blanks_of s.now }
 {
@@ -46,6 +49,7 @@ fn blanks(s: &[u8]) -> usize
 }
 
 // How many octets are left without the blanks at the end.
+#[tactic(auto, unfolding(crate::specs::Lines::kept_of, crate::specs::Lines::kept_from))]
 fn kept(s: &[u8]) -> usize
     ensures { result ≡ kept_of s.now }
 {
@@ -61,6 +65,7 @@ fn kept(s: &[u8]) -> usize
 }
 
 // The step of a line, empty where it has none.
+#[tactic(auto, using(crate::proofs::Within::first_within, crate::proofs::Within::kept_within), unfolding(crate::specs::Lines::step_in, crate::specs::Lines::trimmed))]
 pub fn step(line: &[u8]) -> &[u8]
     ensures { result.now ≡ step_in line.now }
 {
@@ -75,6 +80,7 @@ pub fn step(line: &[u8]) -> &[u8]
 }
 
 // All that is left from a place on.
+#[tactic(auto, using(crate::proofs::Ends::drop_past))]
 pub fn rest(s: &[u8], at: usize) -> &[u8]
     ensures { result.now ≡ drop at s.now }
 {
@@ -85,6 +91,7 @@ pub fn rest(s: &[u8], at: usize) -> &[u8]
 }
 
 // What stands from a place on, up to the first `mark` or to the end.
+#[tactic(auto, using(crate::proofs::Within::first_within), unfolding(crate::specs::Lines::part_at))]
 pub fn part(s: &[u8], at: usize, mark: u8) -> &[u8]
     ensures { result.now ≡ part_at mark at s.now }
 {
@@ -101,6 +108,7 @@ pub fn word(s: &[u8], at: usize) -> &[u8]
 }
 
 // The place of the word behind the one at `at`.
+#[tactic(auto, unfolding(crate::specs::Lines::next_at))]
 pub fn next(s: &[u8], at: usize) -> usize
     ensures { result ≡ next_at at s.now }
 {

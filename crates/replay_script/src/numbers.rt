@@ -9,6 +9,7 @@ pub const NONE: usize = 65536;
 pub const DASH: usize = 65537;
 
 // The number that a word is; NONE where it is none, or above `most`.
+#[tactic(auto, unfolding(crate::specs::Numbers::number_of, crate::specs::Numbers::number_from))]
 pub fn number(word: &[u8], most: u16) -> usize
     ensures { result ≡ number_of most word.now }
 {

@@ -6,6 +6,7 @@ use crate::lines::{part, rest};
 use crate::numbers::{NONE, wide};
 
 // The place of the first line of a name; the length where there is none.
+#[tactic(auto, unfolding(crate::specs::Tables::named_of, crate::specs::Lines::part_at))]
 fn named(table: &[u8], name: &[u8]) -> usize
     ensures { result ≡ named_of name.now true table.now }
 {
@@ -24,6 +25,7 @@ fn named(table: &[u8], name: &[u8]) -> usize
 }
 
 // What is said under a name; nothing where the table does not have it.
+#[tactic(auto, unfolding(crate::specs::Tables::word_said))]
 pub fn said<'a>(table: &'a [u8], name: &[u8]) -> &'a [u8]
     ensures { result.now ≡ word_said name.now table.now }
 {
@@ -32,6 +34,7 @@ pub fn said<'a>(table: &'a [u8], name: &[u8]) -> &'a [u8]
 }
 
 // The octet that is said under a name; NONE where the table does not have it.
+#[tactic(auto, unfolding(crate::specs::Tables::value_of, crate::specs::Tables::front_of))]
 pub fn value(table: &[u8], name: &[u8]) -> usize
     ensures { result ≡ value_of name.now table.now }
 {
