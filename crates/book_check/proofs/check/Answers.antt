@@ -41,13 +41,13 @@ slice-aggregate-same-2 c = search rules
 
 -- the word and the version were passed
 named : (c : Else-not-same-2)
-    → book_number c.??Else1.args.book.now ≡ (if not (between 1 16 (get_or c.??Else1.args.book.now 5 0)) then 4 else entries_number (get_or c.??Else1.args.book.now 5 0) 0 (drop 6 c.??Else1.args.book.now))
+    → book_number c.args.book.now ≡ (if not (between 1 16 (get_or c.args.book.now 5 0)) then 4 else entries_number (get_or c.args.book.now 5 0) 0 (drop 6 c.args.book.now))
 unfolding book_number
 named c =
     simp (
-      le-ltb _ _ c.??After_same_arg.if1.false,
-      compared 0 3 _ _ _ _ _ c.??After_same_arg2.part.ensures c.??Else2.same.ensures c.??After_part2.if2.false,
-      compared 3 2 _ _ _ _ _ c.??After_same_arg3.part2.ensures c.same-2.ensures c.if-not-same-2.false-raw,
+      le-ltb _ _ c.if-book-lt6.false,
+      compared 0 3 _ _ _ _ _ c.part.ensures c.same.ensures c.if-not-same.false-raw,
+      compared 3 2 _ _ _ _ _ c.part-2.ensures c.same-2.ensures c.if-not-same-2.false-raw,
     )
 
 pub returns-then-book-lt6 : goal.returns-then-book-lt6
@@ -59,17 +59,17 @@ pub returns-then-not-same : goal.returns-then-not-same
 unfolding book_number
 returns-then-not-same c =
     simp (
-      le-ltb _ _ c.??After_part.if1.false,
-      compared 0 3 _ _ _ _ _ c.??After_same_arg.part.ensures c.same.ensures c.if-not-same.true-raw,
+      le-ltb _ _ c.if-book-lt6.false,
+      compared 0 3 _ _ _ _ _ c.part.ensures c.same.ensures c.if-not-same.true-raw,
     )
 
 pub returns-then-not-same-2 : goal.returns-then-not-same-2
 unfolding book_number
 returns-then-not-same-2 c =
     simp (
-      le-ltb _ _ c.??After_same_arg.if1.false,
-      compared 0 3 _ _ _ _ _ c.??After_same_arg2.part.ensures c.??Else2.same.ensures c.??After_part2.if2.false,
-      compared 3 2 _ _ _ _ _ c.??After_same_arg3.part2.ensures c.same-2.ensures c.if-not-same-2.true-raw,
+      le-ltb _ _ c.if-book-lt6.false,
+      compared 0 3 _ _ _ _ _ c.part.ensures c.same.ensures c.if-not-same.false-raw,
+      compared 3 2 _ _ _ _ _ c.part-2.ensures c.same-2.ensures c.if-not-same-2.true-raw,
     )
 
 pub returns-then-book-eq0 : goal.returns-then-book-eq0
@@ -78,7 +78,7 @@ returns-then-book-eq0 c =
 
 pub returns-then-book-gt16 : goal.returns-then-book-gt16
 returns-then-book-gt16 c =
-    sym (named (goal.at.returns-then-book-gt16 c).Else-not-same-2 ∙ simp (too_many (get_or c.??Else1.args.book.now 5 0) (omega arith)))
+    sym (named (goal.at.returns-then-book-gt16 c).Else-not-same-2 ∙ simp (too_many (get_or c.args.book.now 5 0) (omega arith)))
 
 pub returns : goal.returns
 returns c =

@@ -9,21 +9,16 @@ use Rattle.book_check.proofs.entries_number.Goals as goal
 use Rattle.book_check.proofs.entries_number.Goals.{After-loop-left, Else-number-ne0}
 
 -- the entry that was passed
-passed : (c : Else-number-ne0 invariant-loop decreases-loop)
-    → let at-loop = c.before.before.before in
-    RightEntry at-loop.before.before.before.args.book.now at-loop.loop.at
+passed : (c : Else-number-ne0)
+    → RightEntry c.args.book.now c.loop-left.at
 passed c =
-    let at-loop = c.before.before.before in
-    right_entry at-loop.loop.before _ at-loop.loop.at (sym c.before.entry-number.ensures ∙ c.if1.false)
+    right_entry c.loop-left.before _ c.loop-left.at (sym c.entry_number-number.ensures ∙ c.if-number-ne0.false)
 
 -- all entries were passed
-all-passed : (c : After-loop-left invariant-loop decreases-loop)
-    → let book = c.before.before.before.before.args.book.now in
-    entries_number (get_or book 5 0) 0 (drop 6 book) ≡ entries_number 0 c.before.loop.before (drop c.before.loop.at book)
+all-passed : (c : After-loop-left)
+    → entries_number (get_or c.args.book.now 5 0) 0 (drop 6 c.args.book.now) ≡ entries_number 0 c.loop-left.before (drop c.loop-left.at c.args.book.now)
 all-passed c =
-    let here = c.before.loop in
-    let book = c.before.before.before.before.args.book.now in
-    here.invariant.1 ∙ ap (λ n. entries_number n here.before (drop here.at book)) c.loop-test.false
+    c.loop-left.invariant.1 ∙ ap (λ n. entries_number n c.loop-left.before (drop c.loop-left.at c.args.book.now)) c.loop-left-test.false
 
 pub returns-then-number-ne0 : goal.returns-then-number-ne0
 returns-then-number-ne0 c =

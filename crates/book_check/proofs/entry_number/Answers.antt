@@ -43,7 +43,7 @@ told-as c t e =
       le-ltb _ _ c.if-book-list.false,
       list_told _ _ _ _ _ _ _ c.part.ensures c.??After_list_right.List-right.ensures e,
     ))
-    ∙ passed c.??Else-kind-gt2
+    ∙ passed c.before.before.before.before.before
 
 pub returns-then-book-at-lt3 : goal.returns-then-book-at-lt3
 returns-then-book-at-lt3 c =
@@ -67,7 +67,7 @@ returns-then-kind-gt2 c =
 
 pub overflow_cast-size : goal.overflow_cast-size
 overflow_cast-size c =
-    omega (arith, c.shared_slice_known-4-1.given (c.args.at + 2))
+    omega (arith, c.type_inv.book (c.args.at + 2))
 
 pub returns-then-size-gt64 : goal.returns-then-size-gt64
 returns-then-size-gt64 c =

@@ -2,12 +2,10 @@
 use mathlib.Core.Path.{sym, ◌∙◌}
 use Rattle.bridge.proofs.PacketTaken.{burst_refused, burst_taken_lem}
 use Rattle.bridge.proofs.burst.Goals as goal
-use Rattle.bridge.proofs.burst.Goals.{After-burst_refusal-number}
 
 pub returns-then-number-ne0 : goal.returns-then-number-ne0
 returns-then-number-ne0 c =
-    let args = (entry (goal.at.returns-then-number-ne0 c).After-burst_refusal-number).args in
-    burst_refused args.book.now args.size args.saved.now args.octets.now args.lengths.now args.reply.now _
+    burst_refused c.args.book.now c.args.size c.args.saved.now c.args.octets.now c.args.lengths.now c.args.reply.now _
     c.burst_refusal-number.ensures _ c.if-number-ne0.true c.none_told.ensures
 
 pub take_all-requires : goal.take_all-requires
@@ -16,6 +14,5 @@ take_all-requires c =
 
 pub returns : goal.returns
 returns c =
-    let args = (entry (goal.at.returns c).After-burst_refusal-number).args in
-    burst_taken_lem args.book.now args.size args.saved.now args.octets.now args.lengths.now args.reply.now _
+    burst_taken_lem c.args.book.now c.args.size c.args.saved.now c.args.octets.now c.args.lengths.now c.args.reply.now _
     c.burst_refusal-number.ensures _ c.if-number-ne0.false c.take_all.ensures

@@ -9,37 +9,36 @@ use Rattle.bridge_burst.proofs.Reached.{Reached, reached_first, reached_all, may
 use Rattle.bridge_burst.proofs.take_all.Goals as goal
 use Rattle.bridge_burst.proofs.take_all.Goals.{After-fit, After-nothing-told, After-slice_known-in-loop-i-2-1, At-loop-i, Start}
 
-abbrev start : After-nothing-told invariant-loop decreases-loop → Start invariant-loop decreases-loop
-start c = c.before.before.before.before.before.before
+abbrev start : After-nothing-told → Start
+start c = c.before.before.before.before.before.before.before
 
 -- what the call was given
-abbrev Met : Start invariant-loop decreases-loop → Type 0
+abbrev Met : Start → Type 0
 Met s = BurstGiven s.args.book.now s.args.size s.args.saved.now s.args.lengths.now s.args.reply.now
 
-met : (s : Start invariant-loop decreases-loop) → Met s
+met : (s : Start) → Met s
 met s = burst_given _ _ _ _ _ s.requires
 
-abbrev at-loop : After-fit invariant-loop decreases-loop → At-loop-i invariant-loop decreases-loop
-at-loop c = c.before.before.before
+abbrev at-loop : After-fit → At-loop-i
+at-loop c = c.before.before.before.before
 
-abbrev begun : After-fit invariant-loop decreases-loop → Start invariant-loop decreases-loop
+abbrev begun : After-fit → Start
 begun c = start (at-loop c).before
 
 -- the packet at hand lies within the octets
-within : (c : After-fit invariant-loop decreases-loop)
+within : (c : After-fit)
     → let here = (at-loop c).loop in here.at + c.fit.result ≤ length (begun c).args.octets.now
 within c =
     let here = (at-loop c).loop in
     let args = (begun c).args in
-    let in-loop = c.before.before in
     let fits =
     next_within args.book.now args.size args.saved.now args.octets.now args.lengths.now
-    args.reply.now (met (begun c)) here.inv.2 in-loop.loop-test.true
+    args.reply.now (met (begun c)) here.inv.2 c.loop-i-test.true
     (get_or args.lengths.now here.i 0) in
     omega (arith, fits, c.fit.ensures)
 
-abbrev fit_of : After-slice_known-in-loop-i-2-1 invariant-loop decreases-loop → After-fit invariant-loop decreases-loop
-fit_of c = c.before.before.before.before.before.before.before.before
+abbrev fit_of : After-slice_known-in-loop-i-2-1 → After-fit
+fit_of c = c.before.before.before.before.before.before.before.before.before
 
 pub loop-i-init : goal.loop-i-init
 loop-i-init c =
@@ -96,7 +95,7 @@ loop-i-preserved c =
     let here = (at-loop fit).loop in
     let size : here.at + fit.fit.result - here.at ≡ fit.fit.result = omega arith in (
       omega arith,
-      c.take_at-t.auto.1.1.0 ∙ here.inv.1,
+      c.take_at-t.auto.size.1.0 ∙ here.inv.1,
       reached_next _ _ _ _ _ _ (met (begun fit)) here.inv.2 in-loop.loop-test.taken fit.fit.result
           fit.fit.ensures _ _ _ _ (ap (λ (k : ℕ). take k (drop here.at (begun fit).args.octets.now)) size)
           c.take_at-t.ensures,

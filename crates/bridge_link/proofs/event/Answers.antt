@@ -7,7 +7,7 @@ use Rattle.bridge_link.proofs.event.Goals as goal
 use Rattle.bridge_link.proofs.event.Goals.{Else-number-ne0}
 
 -- nothing is refused
-quiet : (c : Else-number-ne0) → let args = c.before.before.before.before.before.args?? in Calm args.book.now args.saved.now
+quiet : (c : Else-number-ne0) → Calm c.args.book.now c.args.saved.now
 quiet c =
     calm _ _ _ (λ i. (c.??After_shared_slice_known.slice-known.given i).fits) c.refusal-number.ensures c.if-number-ne0.false
 
@@ -21,8 +21,7 @@ quiet c =
 
 pub returns-then-number-ne0 : goal.returns-then-number-ne0
 returns-then-number-ne0 c =
-    let args = refused.before.before.before.before.args?? in
-    event_refused args.book.now args.saved.now args.event c.refusal-number.result c.refusal-number.ensures
+    event_refused c.args.book.now c.args.saved.now c.args.event c.refusal-number.result c.refusal-number.ensures
     c.if-number-ne0.true
 
 pub slice_bounds-up-count : goal.slice_bounds-up-count
@@ -39,8 +38,7 @@ count-requires c =
 
 pub up-requires : goal.up-requires
 up-requires c =
-    let args = passed.before.before.before.before.before.args?? in
-    lent_held args.book.now args.saved.now (quiet (goal.at.up-requires c).Else-number-ne0) c.count.result c.count.ensures
+    lent_held c.args.book.now c.args.saved.now (quiet (goal.at.up-requires c).Else-number-ne0) c.count.result c.count.ensures
 
 pub slice_bounds-down-count : goal.slice_bounds-down-count
 slice_bounds-down-count c =
@@ -52,9 +50,7 @@ slice_bounds-down-start c =
 
 pub down-requires : goal.down-requires
 down-requires c =
-    let both = let args = passed.before.before.before.before.before.args?? in
-    ((quiet (goal.at.down-requires c).Else-number-ne0).numbered, lent_held args.book.now args.saved.now (quiet (goal.at.down-requires c).Else-number-ne0) _ refl) in
-    record { book_right = both.0; records_held = both.1 }
+    record { book_right = (quiet (goal.at.down-requires c).Else-number-ne0).numbered; records_held = lent_held c.args.book.now c.args.saved.now (quiet (goal.at.down-requires c).Else-number-ne0) _ refl }
 
 pub slice_bounds-lost-count : goal.slice_bounds-lost-count
 slice_bounds-lost-count c =
@@ -70,8 +66,7 @@ count-requires-in-Lost c =
 
 pub lost-requires : goal.lost-requires
 lost-requires c =
-    let args = passed.before.before.before.before.before.args?? in
-    lent_held args.book.now args.saved.now (quiet (goal.at.lost-requires c).Else-number-ne0) c.count-in-Lost.result c.count-in-Lost.ensures
+    lent_held c.args.book.now c.args.saved.now (quiet (goal.at.lost-requires c).Else-number-ne0) c.count-in-Lost.result c.count-in-Lost.ensures
 
 pub bounds-saved-1 : goal.bounds-saved-1
 bounds-saved-1 c =
@@ -80,18 +75,15 @@ bounds-saved-1 c =
 
 pub returns-in-Up : goal.returns-in-Up
 returns-in-Up c =
-    let args = passed.before.before.before.before.before.args?? in
-    up_happens args.book.now args.saved.now (quiet (goal.at.returns-in-Up c).Else-number-ne0) args.event c.count.result
+    up_happens c.args.book.now c.args.saved.now (quiet (goal.at.returns-in-Up c).Else-number-ne0) c.args.event c.count.result
     c.up.result c.up.new.records c.in-Up.is c.count.ensures c.up.ensures
 
 pub returns-in-Down : goal.returns-in-Down
 returns-in-Down c =
-    let args = passed.before.before.before.before.before.args?? in
-    down_happens args.book.now args.saved.now (quiet (goal.at.returns-in-Down c).Else-number-ne0) args.event c.in-Down.seid
+    down_happens c.args.book.now c.args.saved.now (quiet (goal.at.returns-in-Down c).Else-number-ne0) c.args.event c.in-Down.seid
     c.down.result c.down.new.records.0 c.in-Down.is c.down.ensures
 
 pub returns-in-Lost : goal.returns-in-Lost
 returns-in-Lost c =
-    let args = passed.before.before.before.before.before.args?? in
-    lost_happens args.book.now args.saved.now (quiet (goal.at.returns-in-Lost c).Else-number-ne0) args.event c.count-in-Lost.result
+    lost_happens c.args.book.now c.args.saved.now (quiet (goal.at.returns-in-Lost c).Else-number-ne0) c.args.event c.count-in-Lost.result
     c.lost.new.records c.in-Lost.is c.count-in-Lost.ensures c.lost.ensures

@@ -16,7 +16,7 @@ right c = sym c.check-number.ensures ∙ c.if-number-ne0.false
 -- the entries of a right book
 few : (c : After-count-entries) → c.count-entries.result ≤ 16
 few c =
-    omega (arith, c.count-entries.ensures, (right_book c.args.book.now (right c.??Else-number-ne0)).few)
+    omega (arith, c.count-entries.ensures, (right_book c.args.book.now (right c.before.before)).few)
 
 pub returns-then-number-ne0 : goal.returns-then-number-ne0
 returns-then-number-ne0 c =

@@ -15,11 +15,11 @@ use Rattle.bridge_packet.proofs.Taking.{joined_done}
 use Rattle.bridge_packet.proofs.take.Goals as goal
 use Rattle.bridge_packet.proofs.take.Goals.{After-gathered-then, After-slice_known-1}
 
-known : (c : After-slice_known-1) → octets_in §1.args.saved.now ≡ true
-known c = octets_known §2.args.saved.now (λ i. (c.slice_known-1.given i).fits)
+known : (c : After-slice_known-1) → octets_in c.args.saved.now ≡ true
+known c = octets_known c.args.saved.now (λ i. (c.slice_known-1.given i).fits)
 
 next : (c : After-gathered-then) (r : Next) → c.gathered-then.result ≡ r
-    → next_of §2.args.size (gathering_in (link_of §2.args.saved.now)) §2.args.packet.now ≡ r
+    → next_of c.args.size (gathering_in (link_of c.args.saved.now)) c.args.packet.now ≡ r
 next c r e = sym c.gathered-then.ensures.next ∙ e
 
 pub gathered-then-requires : goal.gathered-then-requires

@@ -8,19 +8,17 @@ use Rattle.commands.proofs.on_endpoint.Goals.{In-Here-2}
 
 pub preamble-met-requires : goal.preamble-met-requires
 preamble-met-requires c =
-    let start = c.before.before.before.before.before?? in (start.requires.0, start.requires.1.right, start.requires.1.held)
+    (c.requires.0, c.requires.1.right, c.requires.1.held)
 
 pub refused-requires : goal.refused-requires
 refused-requires c =
-    le_trans (lit≤ tt) checked.before.before.before.before.before.before.requires.1.room??
+    le_trans (lit≤ tt) c.requires.1.room
 
 pub act-requires : goal.act-requires
 act-requires c =
-    let start = checked.before.before.before.before.before.before?? in
-    (start.requires.0, record { serves = start.requires.1; (goal.at.act-requires c).In-Here-2 = sym c.preamble-met.ensures ∙ c.in-Here.is })
+    (c.requires.0, record { serves = c.requires.1; (goal.at.act-requires c).In-Here-2 = sym c.preamble-met.ensures ∙ c.in-Here.is })
 
 pub returns-in-Refused : goal.returns-in-Refused
 returns-in-Refused c =
-    let start = checked.before.before.before.before.before.before?? in
-    refused start.requires.1 start.args.signal start.requires.0 (sym c.preamble-met.ensures ∙ c.in-Refused.is)
+    refused c.requires.1 c.args.signal c.requires.0 (sym c.preamble-met.ensures ∙ c.in-Refused.is)
     (c.refused.ensures.said, c.refused.ensures.reply)

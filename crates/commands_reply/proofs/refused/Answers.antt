@@ -9,6 +9,7 @@ use Rattle.rules.specs.Host.{payload_of}
 use Rattle.commands_reply.specs.Answers.{said_of}
 use Rattle.commands_reply.specs.declared.Said.{Said}
 use Rattle.commands_reply.proofs.Refusing.{rejects_two, rejects_one}
+use borrow.Enum.Refused.{opened}
 use Rattle.commands_reply.proofs.refused.Goals as goal
 
 -- what is said and written of one reply is said and written of an equal one
@@ -20,23 +21,21 @@ alike area e h =
 pub returns-in-SetConfiguration : goal.returns-in-SetConfiguration
 unfolding payload_of
 returns-in-SetConfiguration c =
-    let both = alike c.args.reply.now (rejects_two _ c.in-SetConfiguration.in-SetConfiguration-own.keys1 _ _) (c.rejected_for.ensures.said, c.rejected_for.ensures.reply) in
+    let both = alike c.args.reply.now (rejects_two _ (opened c.in-SetConfiguration.in-SetConfiguration-own.keys1) _ _) (c.rejected_for.ensures.said, c.rejected_for.ensures.reply) in
     record { said = both.0; reply = both.1 }
 
 pub returns-in-Abort : goal.returns-in-Abort
 unfolding said_of rejects front payload_of
 returns-in-Abort c =
-    let both = search rules in
-    record { said = both.0; reply = both.1 }
+    record { said = search rules; reply = search rules }
 
 pub returns-in-Unassigned : goal.returns-in-Unassigned
 unfolding said_of rejects front payload_of
 returns-in-Unassigned c =
-    let both = search rules in
-    record { said = both.0; reply = both.1 }
+    record { said = search rules; reply = search rules }
 
 pub returns-in_default : goal.returns-in_default
 unfolding payload_of
 returns-in_default c =
-    let both = alike c.args.reply.now (rejects_one _ c.in_default.in_default-own.keys4 _ _) (c.rejected.ensures.said, c.rejected.ensures.reply) in
+    let both = alike c.args.reply.now (rejects_one _ (opened c.in_default.in_default-own.keys4) _ _) (c.rejected.ensures.said, c.rejected.ensures.reply) in
     record { said = both.0; reply = both.1 }

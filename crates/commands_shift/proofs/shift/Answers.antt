@@ -10,10 +10,10 @@ use Rattle.commands_shift.proofs.Shifting.{reached_next}
 use Rattle.commands_shift.proofs.shift.Goals as goal
 use Rattle.commands_shift.proofs.shift.Goals.{After-length_right, At-loop-i, Else-not-length_right, Start}
 
-abbrev start : After-length_right invariant-loop decreases-loop → Start invariant-loop decreases-loop
+abbrev start : After-length_right → Start
 start tested = tested.before.before.before.before.before
 
-abbrev at-start : At-loop-i invariant-loop decreases-loop → Start invariant-loop decreases-loop
+abbrev at-start : At-loop-i → Start
 at-start at-loop = start at-loop.before.before
 
 pub returns-then-not-length_right : goal.returns-then-not-length_right
@@ -30,34 +30,34 @@ loop-i-init c =
 
 pub meets-met-requires : goal.meets-met-requires
 meets-met-requires c =
-    ((at-start (goal.at.meets-met-requires c).Else-not-length_right).requires.right, c.??Else1.loop.invariant.2.held)
+    ((at-start (goal.at.meets-met-requires c).Else-not-length_right).requires.right, c.loop-i.invariant.2.held)
 
 pub overflow_mul-seid : goal.overflow_mul-seid
 overflow_mul-seid c =
-    omega (arith, c.??In_loop.shared-slice-known3.given c.??Else1.loop.i)
+    omega (arith, c.type_inv.payload c.loop-i.i)
 
 pub refused-requires-in-Refused : goal.refused-requires-in-Refused
 refused-requires-in-Refused c =
-    omega (arith, ap length c.??Else1.loop.invariant.1, (at-start (goal.at.refused-requires-in-Refused c).Else-not-length_right).requires.room)
+    omega (arith, ap length c.loop-i.invariant.1, (at-start (goal.at.refused-requires-in-Refused c).Else-not-length_right).requires.room)
 
 pub shape_of-reply-in-Refused : goal.shape_of-reply-in-Refused
 shape_of-reply-in-Refused c =
-    omega (arith, ap length c.??Else1.loop.invariant.1)
+    omega (arith, ap length c.loop-i.invariant.1)
 
 pub returns-in-Refused : goal.returns-in-Refused
 unfolding our_in
 returns-in-Refused c =
     let args = (at-start (goal.at.returns-in-Refused c).Else-not-length_right).args in
-    stopped args.signal args.to c.??Else1.loop.invariant.2 c.??At_loop.loop-test.true
-    (sym c.??After_slice_known2.length-right.ensures ∙ not-false _ c.??After_length_right.if1.false)
+    stopped args.signal args.to c.loop-i.invariant.2 c.loop-i-test.true
+    (sym c.length_right.ensures ∙ not-false _ c.if-not-length_right.false-raw)
     (sym c.meets-met.ensures ∙ c.in-Refused.is) args.reply.now c.refused-in-Refused.ensures.said
-    (c.refused-in-Refused.ensures.reply ∙ ap (front _) c.??Else1.loop.invariant.1)
+    (c.refused-in-Refused.ensures.reply ∙ ap (front _) c.loop-i.invariant.1)
 
 pub shift_one-requires : goal.shift_one-requires
 unfolding our_in
 shift_one-requires c =
     let args = (at-start (goal.at.shift_one-requires c).Else-not-length_right).args in
-    record_there args.signal args.to c.??Else1.loop.invariant.2 c.??At_loop.loop-test.true (at-start (goal.at.shift_one-requires c).Else-not-length_right).requires.right
+    record_there args.signal args.to c.loop-i.invariant.2 c.loop-i-test.true (at-start (goal.at.shift_one-requires c).Else-not-length_right).requires.right
     (sym c.meets-met.ensures ∙ c.in-Here.is)
 
 pub loop-i-preserved : goal.loop-i-preserved
@@ -65,10 +65,10 @@ unfolding our_in
 loop-i-preserved c =
     let args = (at-start (goal.at.loop-i-preserved c).Else-not-length_right).args in (
       omega arith,
-      c.??Else1.loop.invariant.1,
-      reached_next args.signal args.to c.??Else1.loop.invariant.2 c.??At_loop.loop-test.true (at-start (goal.at.loop-i-preserved c).Else-not-length_right).requires.right
+      c.loop-i.invariant.1,
+      reached_next args.signal args.to c.loop-i.invariant.2 c.loop-i-test.true (at-start (goal.at.loop-i-preserved c).Else-not-length_right).requires.right
           (sym c.meets-met.ensures ∙ c.in-Here.is) c.shift_one.ensures
-          (λ k. (c.slice_known-in-Here-1.given k).fits),
+          (λ k. (c.type_inv.records k).fits),
     )
 
 pub returns : goal.returns

@@ -9,8 +9,7 @@ use Rattle.commands_shift.proofs.shift_one.Goals as goal
 
 pub returns : goal.returns
 returns c =
-    let args = got.before.before.before.args?? in
     c.set_head.ensures
-    ∙ ap (λ h. patch (args.index * record_room) (head_octets h (config_size_at args.index args.records.now))
-    args.records.now)
-    (c.in_state.ensures ∙ ap (in_state args.to) c.get-h.ensures)
+    ∙ ap (λ h. patch (c.args.index * record_room) (head_octets h (config_size_at c.args.index c.args.records.now))
+    c.args.records.now)
+    (c.in_state.ensures ∙ ap (in_state c.args.to) c.get-h.ensures)

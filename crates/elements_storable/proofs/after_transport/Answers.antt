@@ -21,15 +21,15 @@ use Rattle.elements_storable.proofs.after_transport.Goals.{In-Whole-2}
 -- ---- The element that stands at the place
 
 abbrev caps-of : In-Whole-2 → List Item
-caps-of p = items §1.args.caps.now
+caps-of p = items p.args.caps.now
 
 there : (p : In-Whole-2)
     → Whole p.in-Whole.category p.in-Whole.length p.in-Whole.first
-    ≡ element_at §1.args.list.now §2.args.at
+    ≡ element_at p.args.list.now p.args.at
 there p = sym p.in-Whole.is ∙ p.element_at-element.ensures
 
 inside : (p : In-Whole-2)
-    → p.in-Whole.first + p.in-Whole.length ≤ length §1.args.list.now
+    → p.in-Whole.first + p.in-Whole.length ≤ length p.args.list.now
 inside p = (stands_whole _ _ _ _ _ (there p)).3
 
 -- no whole element

@@ -21,13 +21,13 @@ quiet c =
 inside : (c : In-Known)
     → record_from c.in-Known.place.index + record_room ≤ length c.args.saved.now
 inside c =
-    record_inside c.args.book.now c.args.saved.now c.args.seid (quiet c.??Else-number-ne0) _ _ _ _
+    record_inside c.args.book.now c.args.saved.now c.args.seid (quiet c.before.before.before.before.before) _ _ _ _
     (sym c.locate-located.ensures ∙ c.in-Known.is)
 
 pub returns-then-number-ne0 : goal.returns-then-number-ne0
 returns-then-number-ne0 c =
     rw c.nowhere.ensures
-    (told_some c.args.book.now c.args.saved.now c.args.seid (λ i. (c.shared_slice_known-2-1.given i).fits)
+    (told_some c.args.book.now c.args.saved.now c.args.seid (λ i. (c.type_inv.saved i).fits)
     c.settings_told-number.result c.settings_told-number.ensures c.if-number-ne0.true)
 
 pub locate-located-requires : goal.locate-located-requires
@@ -52,7 +52,7 @@ bounds-saved-head c =
 
 pub overflow_cast-length : goal.overflow_cast-length
 overflow_cast-length c =
-    omega (arith, c.shared_slice_known-in-Known-1.given (record_from c.in-Known.place.index + 7))
+    omega (arith, c.type_inv.saved (record_from c.in-Known.place.index + 7))
 
 pub overflow_add-result : goal.overflow_add-result
 overflow_add-result c =

@@ -23,10 +23,10 @@ message_of label mtype signal payload =
 
 -- ---- What was asked, and the count
 
-abbrev message : Start invariant-loop decreases-loop → Message
+abbrev message : Start → Message
 message s = message_of s.args.label s.args.mtype s.args.signal s.args.payload.now
 
-whole-at : (s : Start invariant-loop decreases-loop) → Whole s.args.size (message s)
+whole-at : (s : Start) → Whole s.args.size (message s)
 whole-at s =
     record {
       right = size_right_lem s.args.size (omega arith) (omega arith);
@@ -35,63 +35,63 @@ whole-at s =
       short = omega arith;
     }
 
-room-long : (s : Start invariant-loop decreases-loop) → length s.args.room.now ≡ 520
+room-long : (s : Start) → length s.args.room.now ≡ 520
 room-long s = let r : RoomRight s.args.room.now = search rules in r.long
 
-abbrev start : After-packets-total invariant-loop decreases-loop → Start invariant-loop decreases-loop
-start c = c.before.before.before.before.before
+abbrev start : After-packets-total → Start
+start c = c.before.before.before.before.before.before
 
-total-at : (c : After-packets-total invariant-loop decreases-loop) → c.packets.result ≡ count_of (start c).args.size (message (start c))
+total-at : (c : After-packets-total) → c.packets-total.result ≡ count_of (start c).args.size (message (start c))
 unfolding count_of
 total-at c =
     let w = whole-at (start c) in
-    c.packets.ensures ∙ packets_right (start c).args.size (length (start c).args.payload.now) w.right w.short
+    c.packets-total.ensures ∙ packets_right (start c).args.size (length (start c).args.payload.now) w.right w.short
 
 -- ---- A turn
 
-abbrev turn-of : After-cut-piece invariant-loop decreases-loop → At-loop-index invariant-loop decreases-loop
+abbrev turn-of : After-cut-piece → At-loop-index
 turn-of c = c.before.before.before
 
-abbrev asked : After-cut-piece invariant-loop decreases-loop → Start invariant-loop decreases-loop
+abbrev asked : After-cut-piece → Start
 asked c = start (turn-of c).before
 
-abbrev packet-of : After-cut-piece invariant-loop decreases-loop → List ℕ
+abbrev packet-of : After-cut-piece → List ℕ
 packet-of c = packet_at (asked c).args.size (message (asked c)) (turn-of c).loop.index
 
-written_at : (c : After-cut-piece invariant-loop decreases-loop)
-    → Written c.cut.result (packet-of c) (turn-of c).loop.area c.cut.new.1.1.1.1.1.1.0
+written_at : (c : After-cut-piece)
+    → Written c.cut-piece.result (packet-of c) (turn-of c).loop.area c.cut-piece.new.label.1.1.1.1.1.0
 written_at c =
-    written (whole-at (asked c)) (turn-of c).loop.index c.cut.result (turn-of c).loop.area
-    c.cut.new.1.1.1.1.1.1.0 (turn-of c).loop.invariant.0.below (omega arith) c.cut.ensures
+    written (whole-at (asked c)) (turn-of c).loop.index c.cut-piece.result (turn-of c).loop.area
+    c.cut-piece.new.label.1.1.1.1.1.0 (turn-of c).loop.invariant.0.below (omega arith) c.cut-piece.ensures
 
-abbrev cut_of : After-receive-echoed invariant-loop decreases-loop → After-cut-piece invariant-loop decreases-loop
+abbrev cut_of : After-receive-echoed → After-cut-piece
 cut_of c = c.before.before.before.before.before.before.before
 
-packet-at : (c : After-receive-echoed invariant-loop decreases-loop) → c.before.before.part.result.now ≡ packet-of (cut_of c)
+packet-at : (c : After-receive-echoed) → c.part.result.now ≡ packet-of (cut_of c)
 packet-at c =
     let cuts = cut_of c in
     lent cuts.cut.result (packet-of cuts) (turn-of cuts).loop.area cuts.cut.last.1.1.1.1.1.1.0
-    c.before.before.part.result.now (written_at cuts) c.before.before.part.ensures
+    c.part.result.now (written_at cuts) c.part.ensures
 
-back_at : (c : After-receive-echoed invariant-loop decreases-loop) → c.receive.result.done ≡ true
-    → Back (message (asked (cut_of c))) c.receive.result (turn-of (cut_of c)).loop.message c.receive.new.1.1.1.0
+back_at : (c : After-receive-echoed) → c.receive-echoed.result.done ≡ true
+    → Back (message (asked (cut_of c))) c.receive-echoed.result (turn-of (cut_of c)).loop.message c.receive-echoed.new.size.1.1.0
 back_at c done =
     let cuts = cut_of c in
-    turn_done (whole-at (asked cuts)) (turn-of cuts).loop.inv.0 c.before.before.part.result.now (packet-at c)
-    c.receive.result c.receive.new.0 (turn-of cuts).loop.message c.receive.new.1.1.1.0
-    c.receive.ensures.0 c.receive.ensures.1.0 c.receive.ensures.1.1 done
+    turn_done (whole-at (asked cuts)) (turn-of cuts).loop.inv.0 c.part.result.now (packet-at c)
+    c.receive-echoed.result c.receive-echoed.new.room (turn-of cuts).loop.message c.receive-echoed.new.size.1.1.0
+    c.receive-echoed.ensures.echoed c.receive-echoed.ensures.room.0 c.receive-echoed.ensures.room.1 done
 
-on-at : (c : After-receive-echoed invariant-loop decreases-loop) → c.receive.result.done ≡ false
-    → Owed (asked (cut_of c)).args.size (message (asked (cut_of c))) ((turn-of (cut_of c)).loop.index + 1) c.receive.new.0
-    × (c.receive.new.1.1.1.0 ≡ (turn-of (cut_of c)).loop.message)
+on-at : (c : After-receive-echoed) → c.receive-echoed.result.done ≡ false
+    → Owed (asked (cut_of c)).args.size (message (asked (cut_of c))) ((turn-of (cut_of c)).loop.index + 1) c.receive-echoed.new.room
+    × (c.receive-echoed.new.size.1.1.0 ≡ (turn-of (cut_of c)).loop.message)
 on-at c going =
     let cuts = cut_of c in
-    turn_on (whole-at (asked cuts)) (turn-of cuts).loop.inv.0 c.before.before.part.result.now (packet-at c)
-    c.receive.result c.receive.new.0 (turn-of cuts).loop.message c.receive.new.1.1.1.0
-    c.receive.ensures.0 c.receive.ensures.1.0 c.receive.ensures.1.1 going
+    turn_on (whole-at (asked cuts)) (turn-of cuts).loop.inv.0 c.part.result.now (packet-at c)
+    c.receive-echoed.result c.receive-echoed.new.room (turn-of cuts).loop.message c.receive-echoed.new.size.1.1.0
+    c.receive-echoed.ensures.echoed c.receive-echoed.ensures.room.0 c.receive-echoed.ensures.room.1 going
 
 -- the loop is never left: the last packet is owed until its turn
-not_left : After-loop-index invariant-loop decreases-loop → ⊥
+not_left : After-loop-index → ⊥
 not_left c = omega (arith, c.loop-test.false, c.before.loop.invariant.0.below, total-at c.before.before)
 
 -- ---- The needs
@@ -105,9 +105,9 @@ pub part-requires : goal.part-requires
 part-requires c =
     omega (
       arith,
-      (written_at (goal.at.part-requires c).After-cut-arg-1).size,
+      (written_at (goal.at.part-requires c).After-cut-piece).size,
       packet_small (whole-at (asked (goal.at.part-requires c).After-cut-arg-1)) (turn-of (goal.at.part-requires c).After-cut-arg-1).loop.index,
-      c.??After_cut_arg.cut.auto.1.1.1.1.1.1.0,
+      c.cut-piece.auto.label.1.1.1.1.1.0,
       (turn-of (goal.at.part-requires c).After-cut-arg-1).loop.invariant.1,
       (asked (goal.at.part-requires c).After-cut-arg-1).requires,
     )
@@ -121,7 +121,7 @@ receive-echoed-requires c =
 pub shape_of-room-then-done : goal.shape_of-room-then-done
 shape_of-room-then-done c =
     let cuts = cut_of (goal.at.shape_of-room-then-done c).After-receive-echoed in
-    omega (arith, c.receive-echoed.auto.0, (turn-of cuts).loop.inv.0.right.long, room-long (asked cuts))
+    omega (arith, c.receive-echoed.auto.room, (turn-of cuts).loop.inv.0.right.long, room-long (asked cuts))
 
 pub shape_of-area-then-done : goal.shape_of-area-then-done
 shape_of-area-then-done c =
@@ -130,7 +130,7 @@ shape_of-area-then-done c =
 
 pub shape_of-message-then-done : goal.shape_of-message-then-done
 shape_of-message-then-done c =
-    omega (arith, c.receive-echoed.auto.1.1.1.0, ap length (turn-of (cut_of (goal.at.shape_of-message-then-done c).After-receive-echoed)).loop.inv.2)
+    omega (arith, c.receive-echoed.auto.size.1.1.0, ap length (turn-of (cut_of (goal.at.shape_of-message-then-done c).After-receive-echoed)).loop.inv.2)
 
 pub returns-then-done : goal.returns-then-done
 returns-then-done c =

@@ -71,25 +71,25 @@ none_written message done g = rw g
 -- ---- What the answer of `gather` tells
 
 abbrev step_of : After-gather-then → Step
-step_of c = gather §1.args.size (gathering_in §2.args.room.now) §3.args.packet.now
+step_of c = gather c.args.size (gathering_in c.args.room.now) c.args.packet.now
 
 abbrev done-of : After-gather-then → Option Message
 done-of c = (step_of c).done
 
 told : (c : After-gather-then) (r : Next) → c.gather-then.result ≡ r
-    → RoomTells §1.args.size §2.args.room.now §3.args.packet.now r
+    → RoomTells c.args.size c.args.room.now c.args.packet.now r
 told c r e =
-    room_told §4.args.size §5.args.room.now §6.args.packet.now r (sym c.gather-then.ensures.next ∙ e)
+    room_told c.args.size c.args.room.now c.args.packet.now r (sym c.gather-then.ensures.next ∙ e)
 
 single-at : (c : In-Single-2)
-    → Singles c.in-Single.header §2.args.packet.now (step_of §3)
-single-at c = told §4 (Single _) c.in-Single.is
+    → Singles c.in-Single.header c.args.packet.now (step_of c.before.before.before.before)
+single-at c = told c.before.before.before.before (Single _) c.in-Single.is
 
 -- and of one in several
 assembled-at : (c : After-gather-then) (h : Header) → c.gather-then.result ≡ Complete h
-    → Assembled h §1.args.packet.now c.gather-then.new.room (done-of c)
+    → Assembled h c.args.packet.now c.gather-then.new.room (done-of c)
 assembled-at c h e =
-    assembled_left §2.args.size §2.args.room.now c.gather-then.new.room §2.args.packet.now §3.requires.room_right
+    assembled_left c.args.size c.args.room.now c.gather-then.new.room c.args.packet.now c.requires.room_right
     c.gather-then.ensures.room h (sym c.gather-then.ensures.next ∙ e)
 
 -- ---- The needs
@@ -113,8 +113,8 @@ put-requires c =
 
 pub assemble-length-requires : goal.assemble-length-requires
 assemble-length-requires c =
-    let both = let a = assembled-at (goal.at.assemble-length-requires c).After-gather-arg-1 _ c.??At_match_keys2.then2.given.1 in
-    (a.long, (a.header, (a.gathered, omega (arith, a.fits, (start (goal.at.assemble-length-requires c).After-gather-arg-1).requires.1)))) in
+    let both = let a = assembled-at (goal.at.assemble-length-requires c).After-gather-then _ c.in-Complete.is in
+    (a.long, (a.header, (a.gathered, omega (arith, a.fits, c.requires.message_fits)))) in
     record { room_whole = both.0; packet_begun = both.1; gathered_fits = both.2; message_fits = both.3 }
 
 pub returns-in-Single : goal.returns-in-Single
@@ -131,12 +131,11 @@ returns-in-Single c =
 
 pub returns-in-Complete : goal.returns-in-Complete
 returns-in-Complete c =
-    let both = let p = (start (goal.at.returns-in-Complete c).After-gather-arg-1).args.packet.now in
-    let a = assembled-at (goal.at.returns-in-Complete c).After-gather-arg-1 _ c.??At_match_keys2.then2.given.1 in (
-      several_echoed _ p (done-of (goal.at.returns-in-Complete c).After-gather-arg-1) c.??After_gather_arg.gather.new.0 c.assemble-length.result a c.assemble-length.ensures.size,
+    let both = let a = assembled-at (goal.at.returns-in-Complete c).After-gather-then _ c.in-Complete.is in (
+      several_echoed _ c.args.packet.now (done-of (goal.at.returns-in-Complete c).After-gather-arg-1) c.gather-then.new.room c.assemble-length.result a c.assemble-length.ensures.size,
       (
-        c.??After_gather_arg.gather.ensures.1,
-        several_written _ p (done-of (goal.at.returns-in-Complete c).After-gather-arg-1) c.??After_gather_arg.gather.new.0 c.assemble-length.new.message (start (goal.at.returns-in-Complete c).After-gather-arg-1).args.message.now a
+        c.gather-then.ensures.room,
+        several_written _ c.args.packet.now (done-of (goal.at.returns-in-Complete c).After-gather-arg-1) c.gather-then.new.room c.assemble-length.new.message c.args.message.now a
             c.assemble-length.ensures.written,
       ),
     ) in

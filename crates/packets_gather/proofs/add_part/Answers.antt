@@ -18,7 +18,7 @@ put-requires c =
 
 pub shape_of-room : goal.shape_of-room
 shape_of-room c =
-    c.put.auto.0 ∙ simp length-set
+    c.put.auto.dst ∙ simp length-set
 
 pub returns : goal.returns
 unfolding with_part

@@ -16,7 +16,7 @@ add_part-requires c =
 
 pub shape_of-room : goal.shape_of-room
 shape_of-room c =
-    c.add_part.auto.0 ∙ simp length-set
+    c.add_part.auto.room ∙ simp length-set
 
 pub returns : goal.returns
 returns c =

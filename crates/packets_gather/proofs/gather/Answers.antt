@@ -19,6 +19,7 @@ use Rattle.packets_next.specs.contracts.nexts.Next.{the_type}
 use Rattle.packets_next.specs.Rooms.{RoomRight}
 use Rattle.packets_next.proofs.Rooms.{marked, payload_length}
 use Rattle.packets_next.proofs.Steps.{RoomTells, room_told}
+use borrow.Enum.Refused.{opened}
 use Rattle.packets_gather.proofs.gather.Goals as goal
 use Rattle.packets_gather.proofs.gather.Goals.{After-next-then}
 
@@ -51,45 +52,32 @@ module _ (size : ℕ) (room p : List ℕ) (right : RoomRight room) where
       ((right.long, m.mark, omega (arith, t.owed)), (t.header, omega (arith, t.fits)))
 
 told : (c : After-next-then) (r : Next) → c.next-then.result ≡ r
-    → RoomTells (start c).args.size (start c).args.room.now (start c).args.packet.now r
+    → RoomTells c.args.size c.args.room.now c.args.packet.now r
 told c r e =
-    room_told (start c).args.size (start c).args.room.now (start c).args.packet.now r (sym c.next-then.ensures ∙ e)
+    room_told c.args.size c.args.room.now c.args.packet.now r (sym c.next-then.ensures ∙ e)
 
 pub begin-requires : goal.begin-requires
 begin-requires c =
-    let both = let t = told (goal.at.begin-requires c).After-next-then Begun c.in-Begun.is in
-    ((start (goal.at.begin-requires c).After-next-then).requires.long, (t.header, t.fits)) in
-    record { room_whole = both.0; packet_fits = both.1 }
+    let t = told (goal.at.begin-requires c).After-next-then Begun c.in-Begun.is in
+    record { room_whole = c.requires.long; packet_fits = (t.header, t.fits) }
 
 pub grow-requires : goal.grow-requires
 grow-requires c =
-    let both = grows _ (start (goal.at.grow-requires c).After-next-then).args.room.now (start (goal.at.grow-requires c).After-next-then).args.packet.now (start (goal.at.grow-requires c).After-next-then).requires
-    (omega (arith, c.slice-known.given 4)) (told (goal.at.grow-requires c).After-next-then Grown c.in-Grown.is) in
+    let both = grows _ c.args.room.now c.args.packet.now c.requires
+    (omega (arith, c.slice_known-1.given 4)) (told (goal.at.grow-requires c).After-next-then Grown c.in-Grown.is) in
     record { room_gathers = both.0; packet_begun = both.1; payload_fits = both.2 }
 
 pub returns-in-Begun : goal.returns-in-Begun
 returns-in-Begun c =
-    let both = (
-      c.next-then.ensures,
-      c.begin.ensures
-          ∙ stored (start (goal.at.returns-in-Begun c).After-next-then).args.room.now _ _ (told (goal.at.returns-in-Begun c).After-next-then Begun c.in-Begun.is).gathering,
-    ) in
-    record { next = both.0; room = both.1 }
+    record { next = c.next-then.ensures; room = c.begin.ensures
+          ∙ stored c.args.room.now _ _ (told (goal.at.returns-in-Begun c).After-next-then Begun c.in-Begun.is).gathering }
 
 pub returns-in-Grown : goal.returns-in-Grown
 returns-in-Grown c =
-    let both = (
-      c.next-then.ensures,
-      c.grow.ensures
-          ∙ stored (start (goal.at.returns-in-Grown c).After-next-then).args.room.now _ _ (told (goal.at.returns-in-Grown c).After-next-then Grown c.in-Grown.is).gathering,
-    ) in
-    record { next = both.0; room = both.1 }
+    record { next = c.next-then.ensures; room = c.grow.ensures
+          ∙ stored c.args.room.now _ _ (told (goal.at.returns-in-Grown c).After-next-then Grown c.in-Grown.is).gathering }
 
 pub returns-in_default : goal.returns-in_default
 returns-in_default c =
-    let both = let args = (start (goal.at.returns-in_default c).After-next-then).args in (
-      c.next-then.ensures,
-      ended_room args.size args.room.now args.packet.now (start (goal.at.returns-in_default c).After-next-then).requires c.next-then.result c.in_default.in_default-own.keys3
-          (told (goal.at.returns-in_default c).After-next-then c.next-then.result refl),
-    ) in
-    record { next = both.0; room = both.1 }
+    record { next = c.next-then.ensures; room = ended_room c.args.size c.args.room.now c.args.packet.now c.requires c.next-then.result (opened c.in_default.in_default-own.keys3)
+          (told (goal.at.returns-in_default c).After-next-then c.next-then.result refl) }

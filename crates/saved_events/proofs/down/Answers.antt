@@ -5,21 +5,18 @@ use Rattle.saved_events.proofs.down.Goals as goal
 
 pub get-e-requires : goal.get-e-requires
 get-e-requires c =
-    let start = placed.before.before.before?? in
-    down_room start.args.seid start.args.book.now start.args.records.now c.??At_match_keys2.located.given.0.0.index _ _ _
-    start.requires.0 start.requires.1 (sym c.??After_slice_known.locate.ensures ∙ c.??At_match_keys2.located.given.1)
+    down_room c.args.seid c.args.book.now c.args.records.now c.in-Known.place.index _ _ _
+    c.requires.book_right c.requires.records_held (sym c.locate-located.ensures ∙ c.in-Known.is)
 
 pub set-requires : goal.set-requires
 set-requires c =
-    let start = placed.before.before.before?? in
-    down_room start.args.seid start.args.book.now start.args.records.now c.??At_match_keys2.located.given.0.0.index _ _ _
-    start.requires.0 start.requires.1 (sym c.??After_slice_known.locate.ensures ∙ c.??At_match_keys2.located.given.1)
+    down_room c.args.seid c.args.book.now c.args.records.now c.in-Known.place.index _ _ _
+    c.requires.book_right c.requires.records_held (sym c.locate-located.ensures ∙ c.in-Known.is)
 
 pub returns-then-is_up : goal.returns-then-is_up
 returns-then-is_up c =
-    let start = placed.before.before.before?? in
-    down_done start.args.seid start.args.book.now start.args.records.now c.??At_match_keys2.located.given.0.0.index _ _ _
-    start.requires.0 start.requires.1 (sym c.??After_slice_known.locate.ensures ∙ c.??At_match_keys2.located.given.1)
+    down_done c.args.seid c.args.book.now c.args.records.now c.in-Known.place.index _ _ _
+    c.requires.book_right c.requires.records_held (sym c.locate-located.ensures ∙ c.in-Known.is)
     c.set.new.records c.get-e.result
     c.switched.result c.is_up.result c.get-e.ensures c.is_up.ensures c.if-is_up.true
     c.switched.ensures c.set.ensures
@@ -31,8 +28,7 @@ returns-in-Unknown c =
 
 pub returns-else-is_up : goal.returns-else-is_up
 returns-else-is_up c =
-    let start = placed.before.before.before?? in
-    down_none start.args.seid start.args.book.now start.args.records.now c.??At_match_keys2.located.given.0.0.index _ _ _
-    start.requires.0 start.requires.1 (sym c.??After_slice_known.locate.ensures ∙ c.??At_match_keys2.located.given.1)
+    down_none c.args.seid c.args.book.now c.args.records.now c.in-Known.place.index _ _ _
+    c.requires.book_right c.requires.records_held (sym c.locate-located.ensures ∙ c.in-Known.is)
     c.get-e.result c.is_up.result
     c.get-e.ensures c.is_up.ensures c.if-is_up.false

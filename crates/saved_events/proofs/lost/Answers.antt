@@ -13,34 +13,31 @@ loop-i-init c =
 
 pub get-e-requires : goal.get-e-requires
 get-e-requires c =
-    let start = at-loop.before.before?? in
     omega (
       arith,
-      c.??After_slice_known.loop.invariant.2,
-      has_room start.args.count c.??After_slice_known.loop.i start.args.records.now start.args.records.now
-          c.??At_loop.loop-test.true start.requires refl,
+      c.loop-i.invariant.2,
+      has_room c.args.count c.loop-i.i c.args.records.now c.args.records.now
+          c.loop-i-test.true c.requires refl,
     )
 
 pub set-requires : goal.set-requires
 set-requires c =
-    let start = at-loop.before.before?? in
     omega (
       arith,
-      c.??After_slice_known.loop.invariant.2,
-      has_room start.args.count c.??After_slice_known.loop.i start.args.records.now start.args.records.now
-          c.??At_loop.loop-test.true start.requires refl,
+      c.loop-i.invariant.2,
+      has_room c.args.count c.loop-i.i c.args.records.now c.args.records.now
+          c.loop-i-test.true c.requires refl,
     )
 
 pub loop-i-preserved : goal.loop-i-preserved
 loop-i-preserved c =
-    let start = at-loop.before.before?? in
-    let room = has_room start.args.count c.??After_slice_known.loop.i start.args.records.now start.args.records.now
-    c.??At_loop.loop-test.true start.requires refl in (
-      idle_turn c.??After_slice_known.loop.i c.??After_slice_known.loop.records start.args.records.now c.set.new.records c.get-e.result
-          c.idle.result room c.??After_slice_known.loop.invariant.0 c.get-e.ensures c.idle.ensures
+    let room = has_room c.args.count c.loop-i.i c.args.records.now c.args.records.now
+    c.loop-i-test.true c.requires refl in (
+      idle_turn c.loop-i.i c.loop-i.records c.args.records.now c.set.new.records c.get-e.result
+          c.idle.result room c.loop-i.invariant.0 c.get-e.ensures c.idle.ensures
           c.set.ensures,
       omega arith,
-      c.set.auto.0 ∙ c.??After_slice_known.loop.invariant.2,
+      c.set.auto.records ∙ c.loop-i.invariant.2,
     )
 
 pub shape_of-records : goal.shape_of-records

@@ -12,35 +12,32 @@ loop-i-init c =
 
 pub get-e-requires : goal.get-e-requires
 get-e-requires c =
-    let start = at-loop.before.before?? in
-    has_room start.args.count c.??After_slice_known.loop.i start.args.records.now c.??After_slice_known.loop.records
-    c.??At_loop.loop-test.true start.requires c.??After_slice_known.loop.invariant.0
+    has_room c.args.count c.loop-i.i c.args.records.now c.loop-i.records
+    c.loop-i-test.true c.requires c.loop-i.invariant.0
 
 pub set_head-requires : goal.set_head-requires
 set_head-requires c =
-    let start = at-loop.before.before?? in
-    has_room start.args.count c.??After_slice_known.loop.i start.args.records.now c.??After_slice_known.loop.records
-    c.??At_loop.loop-test.true start.requires c.??After_slice_known.loop.invariant.0
+    has_room c.args.count c.loop-i.i c.args.records.now c.loop-i.records
+    c.loop-i-test.true c.requires c.loop-i.invariant.0
 
 pub shape_of-records-then-is_awaited : goal.shape_of-records-then-is_awaited
 shape_of-records-then-is_awaited c =
-    c.set_head.auto.0 ∙ ap length c.??After_slice_known.loop.invariant.0
+    c.set_head.auto.records ∙ ap length c.loop-i.invariant.0
 
 pub returns-then-is_awaited : goal.returns-then-is_awaited
 returns-then-is_awaited c =
-    let start = at-loop.before.before?? in
-    up_done start.args.count c.??After_slice_known.loop.i c.??After_slice_known.loop.records start.args.records.now
+    up_done c.args.count c.loop-i.i c.loop-i.records c.args.records.now
     c.set_head.new.records c.get-e.result c.switched.result c.is_awaited.result
-    c.??At_loop.loop-test.true start.requires c.??After_slice_known.loop.invariant.2 c.??After_slice_known.loop.invariant.0 c.get-e.ensures
+    c.loop-i-test.true c.requires c.loop-i.invariant.2 c.loop-i.invariant.0 c.get-e.ensures
     c.is_awaited.ensures c.if-is_awaited.true c.switched.ensures c.set_head.ensures
 
 pub loop-i-preserved : goal.loop-i-preserved
 loop-i-preserved c =
-    let start = at-loop.before.before?? in (
-      c.??After_slice_known.loop.invariant.0,
+    (
+      c.loop-i.invariant.0,
       omega arith,
-      up_goes_on start.args.count c.??After_slice_known.loop.i c.??After_slice_known.loop.records start.args.records.now c.get-e.result
-          c.is_awaited.result c.??At_loop.loop-test.true c.??After_slice_known.loop.invariant.2 c.??After_slice_known.loop.invariant.0
+      up_goes_on c.args.count c.loop-i.i c.loop-i.records c.args.records.now c.get-e.result
+          c.is_awaited.result c.loop-i-test.true c.loop-i.invariant.2 c.loop-i.invariant.0
           c.get-e.ensures c.is_awaited.ensures c.if-is_awaited.false,
     )
 

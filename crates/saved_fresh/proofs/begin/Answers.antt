@@ -16,21 +16,16 @@ record Hand (book records : List ℕ) (at i : ℕ) : Type 0 where
   right : RightEntry book at
   room : (i + 1) * record_room ≤ length records
 
-abbrev Hand-at : In-loop-i invariant-loop decreases-loop → Type 0
+abbrev Hand-at : In-loop-i → Type 0
 Hand-at c =
-    let here = c.before.loop in
-    Hand c.before.before.before.before.before.args.book.now here.records here.at here.i
+    Hand c.args.book.now c.loop-i.records c.loop-i.at c.loop-i.i
 
-at_hand : (c : In-loop-i invariant-loop decreases-loop) → Hand-at c
+at_hand : (c : In-loop-i) → Hand-at c
 at_hand c =
-    let count = c.before.before in
-    let start = count.before.before.before in
-    let entries = count.count.result in
-    let here = c.before.loop in
-    let n = entries - (here.i + 1) in
+    let n = c.count-entries.result - (c.loop-i.i + 1) in
     record {
-      right = first_entry n (entries - here.i) start.args.book.now here.at (omega arith) here.invariant.2;
-      room = omega (arith, start.requires.1, count.count.ensures);
+      right = first_entry n (c.count-entries.result - c.loop-i.i) c.args.book.now c.loop-i.at (omega arith) c.loop-i.invariant.2;
+      room = omega (arith, c.requires.1, c.count-entries.ensures);
     }
 
 pub count-entries-requires : goal.count-entries-requires
@@ -79,7 +74,7 @@ loop-i-preserved c =
     let n = c.count-entries.result - (c.loop-i.i + 1) in
     let left = c.count-entries.result - c.loop-i.i in (
       omega arith,
-      c.set.auto.0 ∙ c.loop-i.invariant.1,
+      c.set.auto.records ∙ c.loop-i.invariant.1,
       other_entries n left c.args.book.now c.loop-i.at (omega arith) c.loop-i.invariant.2,
       one_begun n left c.args.book.now c.loop-i.at c.loop-i.i c.loop-i.records c.set.new.records c.idle.result (omega arith)
           (at_hand (goal.at.loop-i-preserved c).In-loop-i).room c.idle.ensures c.set.ensures c.loop-i.invariant.3,

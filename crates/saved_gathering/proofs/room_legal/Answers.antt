@@ -14,19 +14,19 @@ returns-then-room-ne1 c =
 
 pub overflow_cast-room : goal.overflow_cast-room
 overflow_cast-room c =
-    omega (arith, c.shared_slice_known-4-1.given 6)
+    omega (arith, c.type_inv.room 6)
 
 pub overflow_mul-room : goal.overflow_mul-room
 overflow_mul-room c =
-    omega (arith, c.shared_slice_known-4-1.given 6)
+    omega (arith, c.type_inv.room 6)
 
 pub overflow_cast-room-2 : goal.overflow_cast-room-2
 overflow_cast-room-2 c =
-    omega (arith, c.shared_slice_known-5-1.given 7)
+    omega (arith, c.type_inv.room 7)
 
 pub overflow_add-room : goal.overflow_add-room
 overflow_add-room c =
-    omega (arith, c.shared_slice_known-4-1.given 6, c.shared_slice_known-5-1.given 7)
+    omega (arith, c.shared_slice_known-4-1.given 6, c.type_inv.room 7)
 
 pub returns-then-room-gt512 : goal.returns-then-room-gt512
 returns-then-room-gt512 c =

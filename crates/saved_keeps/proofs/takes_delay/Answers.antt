@@ -38,4 +38,4 @@ returns-then-kind-ne0 c =
 
 pub returns : goal.returns
 returns c =
-    source c.??After_shared_slice_known.args.kind c.??After_shared_slice_known.args.config.now [] c.??After_offers_arg.if1.false c.offers.ensures
+    source c.args.kind c.args.config.now [] c.if-kind-ne0.false c.offers.ensures

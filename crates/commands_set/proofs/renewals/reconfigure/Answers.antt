@@ -14,17 +14,17 @@ use Rattle.commands_checks.proofs.Meeting.{stands}
 use Rattle.commands_set.proofs.Doings.{listed}
 use Rattle.commands_set.proofs.Anew.{renews, fault_refused, anew_moves}
 use Rattle.commands_set.proofs.renewals.reconfigure.Goals as goal
-use Rattle.commands_set.proofs.renewals.reconfigure.Goals.{After-check-walked, After-part, After-slice_known-2-1}
+use Rattle.commands_set.proofs.renewals.reconfigure.Goals.{After-check-walked}
 
 -- ---- What is known on the way
 
 found : (c : After-check-walked)
     → c.check-walked.result
-    ≡ check_of Reconfiguring (items (take §2.args.at.size (drop §2.args.at.from §2.args.book.now))) §2.args.payload.now 1
+    ≡ check_of Reconfiguring (items (take c.args.at.size (drop c.args.at.from c.args.book.now))) c.args.payload.now 1
 unfolding part
 found c =
     c.check-walked.ensures
-    ∙ ap (λ (l : List ℕ). check_of Reconfiguring (items l) §2.args.payload.now 1) c.part.ensures
+    ∙ ap (λ (l : List ℕ). check_of Reconfiguring (items l) c.args.payload.now 1) c.part.ensures
 
 pub part-requires : goal.part-requires
 part-requires c =
@@ -41,13 +41,13 @@ rejected_element-requires c =
 
 pub get-h-requires : goal.get-h-requires
 get-h-requires c =
-    (stands (start_of (goal.at.get-h-requires c).After-slice_known-2-1).requires).inside
+    (stands c.requires).inside
 
 pub renew-requires : goal.renew-requires
 unfolding part
 renew-requires c =
-    renews (start_of (goal.at.renew-requires c).After-slice_known-2-1).requires c.get-h.ensures
-    (sym (found (goal.at.renew-requires c).After-part) ∙ c.??At_match_keys2.walked2.given.1)
+    renews c.requires c.get-h.ensures
+    (sym (found (goal.at.renew-requires c).After-check-walked) ∙ c.in-Clean.is)
 
 pub returns-in-Failed : goal.returns-in-Failed
 returns-in-Failed c =
@@ -56,5 +56,5 @@ returns-in-Failed c =
 
 pub returns-in-Clean : goal.returns-in-Clean
 returns-in-Clean c =
-    anew_moves (start_of (goal.at.returns-in-Clean c).After-slice_known-2-1).requires (sym (found (goal.at.returns-in-Clean c).After-part) ∙ c.??At_match_keys2.walked2.given.1) c.get-h.ensures
+    anew_moves c.requires (sym (found (goal.at.returns-in-Clean c).After-check-walked) ∙ c.in-Clean.is) c.get-h.ensures
     c.accepted.ensures c.renew.ensures

@@ -8,19 +8,18 @@ use Rattle.elements.specs.Marks.{no_marks, marks_from}
 use Rattle.saved.specs.Records.{config_at}
 use Rattle.commands_set.proofs.Anew.{renew_reads, copy_fits, copied, old_short, renew_keeps, renew_writes}
 use Rattle.commands_set.proofs.renewals.renew.Goals as goal
-use Rattle.commands_set.proofs.renewals.renew.Goals.{After-copy-2-1, After-copy-3-1, After-places-left, After-shared_slice_known-1}
+use Rattle.commands_set.proofs.renewals.renew.Goals.{After-copy-2-1, After-copy-3-1, After-places-left}
 
 -- the copy is as long as it was before, and has room for what is stored
 copy-room : (c : After-copy-2-1) → length c.config-stored.result.now ≤ length c.put.new.dst
 copy-room c =
-    omega (arith, copy_fits (start_of c.??After-shared_slice_known-1).requires c.config-stored.ensures, c.put.auto)
+    omega (arith, copy_fits c.requires c.config-stored.ensures, c.put.auto)
 
 -- what is lent of it is what is stored
 old-same : (c : After-copy-3-1)
-    → let args = (start_of c.??After-shared_slice_known-1).args in
-    take (length c.config-stored.result.now) c.put.new.dst ≡ config_at args.index args.records.now
+    → take (length c.config-stored.result.now) c.put.new.dst ≡ config_at c.args.index c.args.records.now
 old-same c =
-    copied (start_of c.??After-shared_slice_known-1).requires c.config-stored.ensures _ refl c.put.ensures
+    copied c.requires c.config-stored.ensures _ refl c.put.ensures
 
 -- the marks of what is stored
 marks : (c : After-places-left)
@@ -29,11 +28,11 @@ marks c = c.places-left.ensures ∙ ap (marks_from _ 0) c.none.ensures
 
 pub config-stored-requires : goal.config-stored-requires
 config-stored-requires c =
-    renew_reads (start_of (goal.at.config-stored-requires c).After-shared_slice_known-1).requires
+    renew_reads c.requires
 
 pub put-requires : goal.put-requires
 put-requires c =
-    copy_fits (start_of (goal.at.put-requires c).After-shared_slice_known-1).requires c.config-stored.ensures
+    copy_fits c.requires c.config-stored.ensures
 
 pub slice_bounds-copy-end : goal.slice_bounds-copy-end
 slice_bounds-copy-end c =
@@ -45,13 +44,13 @@ slice_bounds-old-end c =
 
 pub places-left-requires : goal.places-left-requires
 places-left-requires c =
-    old_short (start_of (goal.at.places-left-requires c).After-shared_slice_known-1).requires (old-same (goal.at.places-left-requires c).After-copy-3-1)
+    old_short c.requires (old-same (goal.at.places-left-requires c).After-copy-3-1)
 
 pub keep-requires : goal.keep-requires
 keep-requires c =
-    renew_keeps (start_of (goal.at.keep-requires c).After-shared_slice_known-1).requires (old-same (goal.at.keep-requires c).After-copy-3-1) (marks (goal.at.keep-requires c).After-places-left)
+    renew_keeps c.requires (old-same (goal.at.keep-requires c).After-copy-3-1) (marks (goal.at.keep-requires c).After-places-left)
 
 pub returns : goal.returns
 returns c =
-    renew_writes (start_of (goal.at.returns c).After-shared_slice_known-1).requires (old-same (goal.at.returns c).After-copy-3-1) (marks (goal.at.returns c).After-places-left)
+    renew_writes c.requires (old-same (goal.at.returns c).After-copy-3-1) (marks (goal.at.returns c).After-places-left)
     c.keep.ensures

@@ -19,11 +19,11 @@ use Rattle.commands_checks.proofs.Meeting.{stands}
 use Rattle.commands_set.proofs.Doings.{listed}
 use Rattle.commands_set.proofs.Sets.{two, could_few, far_refused, whole_moves}
 use Rattle.commands_set.proofs.settings.set_configuration.Goals as goal
-use Rattle.commands_set.proofs.settings.set_configuration.Goals.{After-could_store, After-far_right, After-shared_slice_known-3-1, Else-not-could_store, Else-not-far_right}
+use Rattle.commands_set.proofs.settings.set_configuration.Goals.{Else-not-could_store, Else-not-far_right}
 
 -- ---- What is known on the way
 
-right : (c : Else-not-far_right) → far_right (far_in (get_or §1.args.payload.now 1 0)) ≡ true
+right : (c : Else-not-far_right) → far_right (far_in (get_or c.args.payload.now 1 0)) ≡ true
 unfolding far_in
 right c = sym c.far_right.ensures ∙ not-false _ c.if-not-far_right.false-raw
 
@@ -33,10 +33,10 @@ unfolding part
 elements p = take_all (length p - 2) (drop 2 p) (rw length-drop (omega arith))
 
 could : (c : Else-not-could_store)
-    → could_store (items (take §2.args.at.size (drop §2.args.at.from §2.args.book.now))) (drop 2 §2.args.payload.now) ≡ true
+    → could_store (items (take c.args.at.size (drop c.args.at.from c.args.book.now))) (drop 2 c.args.payload.now) ≡ true
 unfolding part
 could c =
-    ap (λ (l : List ℕ). could_store (items l) (drop 2 §2.args.payload.now)) (sym c.part.ensures)
+    ap (λ (l : List ℕ). could_store (items l) (drop 2 c.args.payload.now)) (sym c.part.ensures)
     ∙ sym c.could_store.ensures ∙ not-false _ c.if-not-could_store.false-raw
 
 pub bounds-payload-1 : goal.bounds-payload-1
@@ -69,27 +69,26 @@ set_picked-requires c =
 
 pub get-h-requires : goal.get-h-requires
 get-h-requires c =
-    (stands (start_of (goal.at.get-h-requires c).After-shared_slice_known-3-1).requires).inside
+    (stands c.requires).inside
 
 pub overflow_sub-payload : goal.overflow_sub-payload
 overflow_sub-payload c =
-    two (start_of (goal.at.overflow_sub-payload c).After-shared_slice_known-3-1).requires
+    two c.requires
 
 pub part-requires-2 : goal.part-requires-2
 part-requires-2 c =
-    omega (arith, two (start_of (goal.at.part-requires-2 c).After-shared_slice_known-3-1).requires)
+    omega (arith, two c.requires)
 
 pub keep_whole-requires : goal.keep_whole-requires
 keep_whole-requires c =
-    let start = start_of (goal.at.keep_whole-requires c).After-shared_slice_known-3-1 in (
-      (stands start.pre).inside,
-      subst (λ (l : List ℕ). length l ≤ 64) (sym (c.part-2.ensures ∙ elements start.args.payload.now))
-          (could_few start.pre (could (goal.at.keep_whole-requires c).After-could_store)),
+    (
+      (stands c.pre).inside,
+      subst (λ (l : List ℕ). length l ≤ 64) (sym (c.part-2.ensures ∙ elements c.args.payload.now))
+          (could_few c.pre (could (goal.at.keep_whole-requires c).Else-not-could_store)),
     )
 
 pub returns : goal.returns
 unfolding far_in
 returns c =
-    let start = start_of (goal.at.returns c).After-shared_slice_known-3-1 in
-    whole_moves start.pre (right (goal.at.returns c).After-far_right) (could (goal.at.returns c).After-could_store) (c.part-2.ensures ∙ elements start.args.payload.now)
+    whole_moves c.pre (right (goal.at.returns c).Else-not-far_right) (could (goal.at.returns c).Else-not-could_store) (c.part-2.ensures ∙ elements c.args.payload.now)
     c.get-h.ensures c.settled.ensures c.accepted.ensures c.keep_whole.ensures

@@ -18,7 +18,7 @@ use Rattle.commands_checks.proofs.Meeting.{stands}
 use Rattle.commands_set.proofs.Doings.{listed}
 use Rattle.commands_set.proofs.Sets.{set_keeps, fault_refused, set_moves}
 use Rattle.commands_set.proofs.settings.set_picked.Goals as goal
-use Rattle.commands_set.proofs.settings.set_picked.Goals.{After-check-walked, After-part, After-slice_known-2-1, Start}
+use Rattle.commands_set.proofs.settings.set_picked.Goals.{After-check-walked, Start}
 
 -- ---- What is known on the way
 
@@ -28,10 +28,10 @@ right c = ap far_right (sym c.requires.1) ∙ c.requires.2
 
 found : (c : After-check-walked)
     → c.check-walked.result
-    ≡ check_of Setting (items (take §2.args.at.size (drop §2.args.at.from §2.args.book.now))) §2.args.payload.now 2
+    ≡ check_of Setting (items (take c.args.at.size (drop c.args.at.from c.args.book.now))) c.args.payload.now 2
 unfolding part
 found c =
-    c.check-walked.ensures ∙ ap (λ (l : List ℕ). check_of Setting (items l) §2.args.payload.now 2) c.part.ensures
+    c.check-walked.ensures ∙ ap (λ (l : List ℕ). check_of Setting (items l) c.args.payload.now 2) c.part.ensures
 
 pub part-requires : goal.part-requires
 part-requires c =
@@ -48,11 +48,11 @@ rejected_element-requires c =
 
 pub get-h-requires : goal.get-h-requires
 get-h-requires c =
-    (stands (start_of (goal.at.get-h-requires c).After-slice_known-2-1).requires.0).inside
+    (stands c.requires.0).inside
 
 pub keep-requires : goal.keep-requires
 keep-requires c =
-    set_keeps (start_of (goal.at.keep-requires c).After-slice_known-2-1).requires.0 (sym (found (goal.at.keep-requires c).After-part) ∙ c.??At_match_keys2.walked2.given.1) c.none.ensures
+    set_keeps c.requires.0 (sym (found (goal.at.keep-requires c).After-check-walked) ∙ c.in-Clean.is) c.none.ensures
 
 pub returns-in-Failed : goal.returns-in-Failed
 returns-in-Failed c =
@@ -61,7 +61,6 @@ returns-in-Failed c =
 
 pub returns-in-Clean : goal.returns-in-Clean
 returns-in-Clean c =
-    let start = start_of (goal.at.returns-in-Clean c).After-slice_known-2-1 in
-    set_moves start.pre.0 (right start) (sym (found (goal.at.returns-in-Clean c).After-part) ∙ c.??At_match_keys2.walked2.given.1) c.none.ensures
-    c.get-h.ensures (c.settled.ensures ∙ ap (λ f. settled_by f c.get-h.result) start.pre.1)
+    set_moves c.pre.0 (right (goal.at.returns-in-Clean c).Start) (sym (found (goal.at.returns-in-Clean c).After-check-walked) ∙ c.in-Clean.is) c.none.ensures
+    c.get-h.ensures (c.settled.ensures ∙ ap (λ f. settled_by f c.get-h.result) c.pre.1)
     c.accepted.ensures c.keep.ensures

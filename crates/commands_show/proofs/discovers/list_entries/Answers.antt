@@ -23,23 +23,17 @@ record Hand (book : List ℕ) (entries at : ℕ) : Type 0 where
   seid : get_or book at 0 ≤ 62
   few : entries ≤ 16
 
-abbrev Hand-at : In-loop-i invariant-loop decreases-loop → Type 0
+abbrev Hand-at : In-loop-i → Type 0
 Hand-at c =
-    let count = c.before.before in
-    Hand count.before.before.before.before.args.book.now count.count.result c.before.loop.at
+    Hand c.args.book.now c.count-entries.result c.loop-i.at
 
-at_hand : (c : In-loop-i invariant-loop decreases-loop) → Hand-at c
+at_hand : (c : In-loop-i) → Hand-at c
 at_hand c =
-    let count = c.before.before in
-    let start = count.before.before.before.before in
-    let book = start.args.book.now in
-    let entries = count.count.result in
-    let here = c.before.loop in
-    let n = entries - (here.i + 1) in
+    let n = c.count-entries.result - (c.loop-i.i + 1) in
     record {
-      right = first_left n (entries - here.i) book here.at (omega arith) here.invariant.2;
-      seid = seid_left n (entries - here.i) book here.at (omega arith) here.invariant.2;
-      few = omega (arith, (right_book book start.requires.0).few, count.count.ensures);
+      right = first_left n (c.count-entries.result - c.loop-i.i) c.args.book.now c.loop-i.at (omega arith) c.loop-i.invariant.2;
+      seid = seid_left n (c.count-entries.result - c.loop-i.i) c.args.book.now c.loop-i.at (omega arith) c.loop-i.invariant.2;
+      few = omega (arith, (right_book c.args.book.now c.requires.0).few, c.count-entries.ensures);
     }
 
 -- one bit

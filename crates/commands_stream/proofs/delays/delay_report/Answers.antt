@@ -13,7 +13,6 @@ use Rattle.commands_checks.specs.Named.{Named}
 use Rattle.commands_checks.proofs.Meeting.{stands}
 use Rattle.commands_stream.proofs.Moving.{delay_refused, delay_moves}
 use Rattle.commands_stream.proofs.delays.delay_report.Goals as goal
-use Rattle.commands_stream.proofs.delays.delay_report.Goals.{After-config, After-slice_known-2-1}
 
 three : {book records p reply : List ℕ} {at : Place} → Named DelayReport book records p reply at → length p ≡ 3
 unfolding length_right
@@ -21,50 +20,50 @@ three {p = p} call = eqb-true (length p) 3 (stands call).long
 
 pub config-requires : goal.config-requires
 config-requires c =
-    let it = stands c.before.before.before.before.before.requires?? in (it.inside, it.told)
+    let it = stands c.requires in (it.inside, it.told)
 
 pub rejected-requires : goal.rejected-requires
 rejected-requires c =
-    let call = (start (goal.at.rejected-requires c).After-config).requires in search (rules, call.serves.room)
+    search (rules, c.requires.serves.room)
 
 pub returns-then-not-takes_delay : goal.returns-then-not-takes_delay
 returns-then-not-takes_delay c =
-    delay_refused (start (goal.at.returns-then-not-takes_delay c).After-config).requires c.config.ensures c.takes_delay.ensures c.if-not-takes_delay.true-raw
+    delay_refused c.requires c.config.ensures c.takes_delay.ensures c.if-not-takes_delay.true-raw
     (c.rejected.ensures.said, c.rejected.ensures.reply)
 
 pub get-h-requires : goal.get-h-requires
 get-h-requires c =
-    (stands (start (goal.at.get-h-requires c).After-slice_known-2-1).requires).inside
+    (stands c.requires).inside
 
 pub bounds-payload-1 : goal.bounds-payload-1
 bounds-payload-1 c =
-    omega (arith, three (start (goal.at.bounds-payload-1 c).After-slice_known-2-1).requires)
+    omega (arith, three c.requires)
 
 pub overflow_cast-tenths : goal.overflow_cast-tenths
 overflow_cast-tenths c =
-    omega (arith, c.shared_slice_known-3-1.given 1)
+    omega (arith, c.type_inv.payload 1)
 
 pub overflow_mul-tenths : goal.overflow_mul-tenths
 overflow_mul-tenths c =
-    omega (arith, c.shared_slice_known-3-1.given 1)
+    omega (arith, c.type_inv.payload 1)
 
 pub bounds-payload-2 : goal.bounds-payload-2
 bounds-payload-2 c =
-    omega (arith, three (start (goal.at.bounds-payload-2 c).After-slice_known-2-1).requires)
+    omega (arith, three c.requires)
 
 pub overflow_cast-tenths-2 : goal.overflow_cast-tenths-2
 overflow_cast-tenths-2 c =
-    omega (arith, c.shared_slice_known-4-1.given 2)
+    omega (arith, c.type_inv.payload 2)
 
 pub overflow_add-tenths : goal.overflow_add-tenths
 overflow_add-tenths c =
-    omega (arith, c.shared_slice_known-3-1.given 1, c.shared_slice_known-4-1.given 2)
+    omega (arith, c.shared_slice_known-3-1.given 1, c.type_inv.payload 2)
 
 pub set_head-requires : goal.set_head-requires
 set_head-requires c =
-    (stands (start (goal.at.set_head-requires c).After-slice_known-2-1).requires).inside
+    (stands c.requires).inside
 
 pub returns : goal.returns
 returns c =
-    delay_moves (start (goal.at.returns c).After-slice_known-2-1).requires c.??After_slice_known2.config.ensures c.??After_config.takes-delay.ensures c.??After_takes_delay.if1.false
+    delay_moves c.requires c.config.ensures c.takes_delay.ensures c.if-not-takes_delay.false-raw
     c.get-h.ensures c.delayed.ensures c.accepted.ensures c.set_head.ensures

@@ -34,18 +34,18 @@ module _ (to : State) (i : ℕ) (l : List ℕ) {h : Head} {b : Bool} (got : h �
 
 pub returns-then-is_up : goal.returns-then-is_up
 returns-then-is_up c =
-    let both = let args = got.before.before.before.args?? in (
+    let both = (
       c.accepted.ensures,
-      with_channel_lem args.to args.index args.records.now c.get-h.ensures c.is_up.ensures c.if-is_up.true
+      with_channel_lem c.args.to c.args.index c.args.records.now c.get-h.ensures c.is_up.ensures c.if-is_up.true
           c.in_state.ensures c.set_head.ensures,
     ) in
     record { said = both.0; records = both.1 }
 
 pub returns : goal.returns
 returns c =
-    let both = let args = got.before.before.before.args?? in (
+    let both = (
       c.accepted-2.ensures,
-      without args.to args.index args.records.now c.get-h.ensures c.is_up.ensures c.if-is_up.false
+      without c.args.to c.args.index c.args.records.now c.get-h.ensures c.is_up.ensures c.if-is_up.false
           c.idle.ensures c.set.ensures,
     ) in
     record { said = both.0; records = both.1 }

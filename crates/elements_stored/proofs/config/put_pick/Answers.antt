@@ -126,15 +126,15 @@ rooms-at c =
 
 abbrev Written-at : After-put → Type 0
 Written-at c =
-    c.put.new.dst ≡ patch §1.args.to (§1.args.category ∷ size_at §1.args.list.now §1.args.place ∷ value_at §1.args.list.now §1.args.place) §1.args.area.now
+    c.put.new.dst ≡ patch c.args.to (c.args.category ∷ size_at c.args.list.now c.args.place ∷ value_at c.args.list.now c.args.place) c.args.area.now
 
 written_at : (c : After-put) → Written-at c
 written_at c =
-    first §1.args.category §1.args.list.now §1.args.place §1.args.to §1.args.area.now (rooms-at c.??Else-place-eq0)
+    first c.args.category c.args.list.now c.args.place c.args.to c.args.area.now (rooms-at c.before.before.before.before)
     c.part.result.now c.part.ensures c.put.ensures
 
-written_length : (c : After-put) → length c.put.new.dst ≡ length §1.args.area.now
-written_length c = c.put.auto.0 ∙ simp length-set
+written_length : (c : After-put) → length c.put.new.dst ≡ length c.args.area.now
+written_length c = c.put.auto.dst ∙ simp length-set
 
 pub returns-then-place-eq0 : goal.returns-then-place-eq0
 returns-then-place-eq0 c =
@@ -198,7 +198,7 @@ bounds-list-place c =
 
 pub overflow_mul-area : goal.overflow_mul-area
 overflow_mul-area c =
-    omega (arith, c.shared_slice_known-3-1.given c.args.place)
+    omega (arith, c.type_inv.list c.args.place)
 
 pub bounds-area-to-2 : goal.bounds-area-to-2
 bounds-area-to-2 c =

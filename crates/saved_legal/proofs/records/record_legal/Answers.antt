@@ -32,7 +32,7 @@ past-channel c = sym c.channel_right.ensures ∙ not-false _ c.if-not-channel_ri
 -- the configuration's length
 short : (c : After-load-e) → get_or c.args.slot.now 7 0 ≤ 64
 short c =
-    config_short (entry c.??Start) c.args.slot.now (past-octets c.??Else-not-octets_right) c.load-e.result c.load-e.ensures
+    config_short (entry c.before.before.before.before.before.before.before) c.args.slot.now (past-octets c.before) c.load-e.result c.load-e.ensures
 
 pub idles-requires : goal.idles-requires
 idles-requires c =

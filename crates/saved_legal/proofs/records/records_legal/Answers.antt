@@ -18,45 +18,33 @@ use Rattle.saved_legal.proofs.records.records_legal.Goals as goal
 use Rattle.saved_legal.proofs.records.records_legal.Goals.{After-awaits-awaited, After-part-slot, After-record_legal, In-loop-index}
 
 -- the entry at hand, and room for its record
-entry : (c : In-loop-index invariant-loop decreases-loop)
-    → RightEntry c.before.before.before.before.before.args.book.now c.before.loop.at
+entry : (c : In-loop-index)
+    → RightEntry c.args.book.now c.loop-index.at
 entry c =
-    let entries = c.before.before.count.result in
-    let here = c.before.loop in
-    first_entry (entries - (here.index + 1)) (entries - here.index) _ here.at (omega arith) here.invariant.2
+    first_entry (c.count-entries.result - (c.loop-index.index + 1)) (c.count-entries.result - c.loop-index.index) _ c.loop-index.at (omega arith) c.loop-index.invariant.2
 
-room : (c : In-loop-index invariant-loop decreases-loop)
-    → c.before.loop.index * record_room + record_room ≤ length c.before.before.before.before.before.args.records.now
+room : (c : In-loop-index)
+    → c.loop-index.index * record_room + record_room ≤ length c.args.records.now
 room c =
-    let counted = c.before.before in
-    omega (arith, c.loop-test.true, counted.count.ensures, counted.before.before.before.requires.1)
+    omega (arith, c.loop-index-test.true, c.count-entries.ensures, c.requires.1)
 
 -- the record that was taken
-slot-long : (c : After-part-slot invariant-loop decreases-loop) → length c.part.result.now ≡ record_room
+slot-long : (c : After-part-slot) → length c.part-slot.result.now ≡ record_room
 slot-long c =
-    let in-loop = c.before.before in
-    let i = in-loop.before.loop.index in
-    let records = in-loop.before.before.before.before.before.args.records.now in
-    subst (λ (x : List ℕ). length x ≡ record_room) (sym c.part.ensures)
-    (part_length (i * record_room) record_room records (room in-loop))
+    subst (λ (x : List ℕ). length x ≡ record_room) (sym c.part-slot.ensures)
+    (part_length (c.loop-index.index * record_room) record_room c.args.records.now (room c.before.before))
 
 -- what the test of a record says
-judged : (c : After-record_legal invariant-loop decreases-loop)
-    → let at-loop = c.before.before.before.before.before.before.before in
-    let args = at-loop.before.before.before.before.args in
-    c.record-legal.result
-    ≡ record_legal (entry_at args.book.now at-loop.loop.at)
-    (part (at-loop.loop.index * record_room) record_room args.records.now)
+judged : (c : After-record_legal)
+    → c.record_legal.result
+    ≡ record_legal (entry_at c.args.book.now c.loop-index.at)
+    (part (c.loop-index.index * record_room) record_room c.args.records.now)
 judged c =
-    let list = c.before in
-    let slot = list.before.before.before in
-    let at-loop = slot.before.before.before in
-    let args = at-loop.before.before.before.before.args in
-    at_hand args.book.now at-loop.loop.at at-loop.loop.index args.records.now _ _ slot.part.ensures
-    list.part2.ensures c.record-legal.ensures
+    at_hand c.args.book.now c.loop-index.at c.loop-index.index c.args.records.now _ _ c.part-slot.ensures
+    c.part.ensures c.record_legal.ensures
 
-few : (c : After-awaits-awaited invariant-loop decreases-loop) → c.awaits.result ≤ 1
-few c = subst (λ (n : ℕ). n ≤ 1) (sym c.awaits.ensures) (awaits_few _)
+few : (c : After-awaits-awaited) → c.awaits-awaited.result ≤ 1
+few c = subst (λ (n : ℕ). n ≤ 1) (sym c.awaits-awaited.ensures) (awaits_few _)
 
 pub count-entries-requires : goal.count-entries-requires
 count-entries-requires c =

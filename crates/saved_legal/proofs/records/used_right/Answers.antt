@@ -27,7 +27,7 @@ returns-then-not-delay_octets_right c =
 
 pub overflow_cast-result : goal.overflow_cast-result
 overflow_cast-result c =
-    omega (arith, c.shared_slice_known-7-1.given 7)
+    omega (arith, c.type_inv.slot 7)
 
 pub returns : goal.returns
 unfolding used_right

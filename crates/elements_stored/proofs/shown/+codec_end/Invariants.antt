@@ -1,0 +1,6 @@
+use Prim.Native.Nat.{◌-◌}
+use lib.ListN.{length}
+use Rattle.elements_stored.proofs.shown.+codec_end.Given as goal
+
+abbrev pub decreases-codec_end : goal.decreases-codec_end
+decreases-codec_end l = length l.list.now - l.at
