@@ -4,8 +4,8 @@
 
 ghost use Rattle.std.specs.Prelude.{◌≡◌, ◌+◌, ◌*◌, ◌^◌, ◌≤◌, ◌<◌, min, length};
 
-use libc::STDOUT_FILENO;
 use rules::Piece;
+use std::io;
 
 const LABEL: u8 = 5;
 
@@ -201,18 +201,18 @@ fn pattern(payload: &mut Payload) {
     }
 }
 
-fn line(word: &[u8], number: u64) {
-    io::write_all(STDOUT_FILENO, word);
-    io::print_decimal(STDOUT_FILENO, number);
-    io::write_all(STDOUT_FILENO, b"\n");
+fn line(rt: &impl Print, word: &[u8], number: u64) -> io::Result<()> {
+    rt.write_all(word)?;
+    rt.print(number)?;
+    rt.write_all(b"\n")
 }
 
-fn main() {
+fn main(rt: HostRuntime) -> io::Result<()> {
     let mut payload = [0u8; 512];
     pattern(&mut payload);
     let mut area = [0u8; 700];
     let mut expected = [0u8; 700];
     let tally = sizes(&payload, &mut area, &mut expected);
-    line(b"packets ", tally.packets);
-    line(b"different ", tally.different);
+    line(&rt, b"packets ", tally.packets)?;
+    line(&rt, b"different ", tally.different)
 }

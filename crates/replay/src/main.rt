@@ -11,29 +11,40 @@ use replay_input::{Reader, fewer, next};
 use replay_reading::LONG;
 use replay_script::lines;
 use rules::layout::LONGEST;
+use std::io;
+use std::io::Read;
 
 // A line that was read: a step, nothing, or too long.
 fn finish(
+    rt: &impl Print,
     k: usize,
     line: &[u8],
     length: usize,
     kept: Kept,
     book: &mut [u8],
     saved: &mut [u8],
-) -> Kept {
+) -> io::Result<Kept> {
     if line.len() <= length {
-        complain(kept.explains, k, LONG);
-        return kept;
+        complain(rt, kept.explains, k, LONG)?;
+        return Ok(kept);
     }
     let text = lines::step(front(line, length));
     if text.len() == 0 {
-        return kept;
+        return Ok(kept);
     }
-    run(k, text, kept, book, saved)
+    run(rt, k, text, kept, book, saved)
 }
 
 // All of the input, in turns that are counted down as those of a line are.
-fn replay(input: &mut [u8], line: &mut [u8], first: Kept, book: &mut [u8], saved: &mut [u8]) {
+fn replay(
+    rt: &impl Print,
+    source: &mut impl Read,
+    input: &mut [u8],
+    line: &mut [u8],
+    first: Kept,
+    book: &mut [u8],
+    saved: &mut [u8],
+) -> io::Result<()> {
     let mut turns = u64::MAX;
     let mut kept = first;
     let mut at = Reader {
@@ -45,13 +56,14 @@ fn replay(input: &mut [u8], line: &mut [u8], first: Kept, book: &mut [u8], saved
         ended: false,
     };
     while turns > 0 {
-        at = next(input, line, at);
-        kept = finish(at.lines, line, at.length, kept, book, saved);
+        at = next(source, input, line, at)?;
+        kept = finish(rt, at.lines, line, at.length, kept, book, saved)?;
         turns = fewer(turns, at.ended);
     }
+    Ok(())
 }
 
-fn main() {
+fn main(rt: HostRuntime) -> io::Result<()> {
     let mut input = [0u8; 16384];
     let mut line = [0u8; 8192];
     let mut book = [0u8; 2730];
@@ -63,5 +75,14 @@ fn main() {
         area: 64,
         explains: false,
     };
-    replay(&mut input, &mut line, kept, &mut book, &mut saved);
+    let mut source = rt.stdin();
+    replay(
+        &rt,
+        &mut source,
+        &mut input,
+        &mut line,
+        kept,
+        &mut book,
+        &mut saved,
+    )
 }

@@ -1,5 +1,5 @@
 // What the program keeps between lines besides its areas.
-#[derive(Drop)]
+#[derive(Clone, Copy)]
 pub struct Kept {
     // the length of the book; 0 until one was accepted
     pub book: usize,

@@ -34,8 +34,8 @@ pub fn front(area: &[u8], n: usize) -> &[u8]
 
 // A length, or all that an area has where that is less.
 pub fn within(n: usize, area: &[u8]) -> usize
-    ensures value { result ≡ min n (length area.now) }
-    ensures upper_bound { result ≤ length area.now }
+    ensures lesser { result ≡ min n (length area.now) }
+    ensures in_area { result ≤ length area.now }
 {
     if area.len() < n {
         return area.len();

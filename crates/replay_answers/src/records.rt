@@ -10,6 +10,7 @@ use rules::layout::{
     LENGTH_HIGH, LENGTH_LOW, LINK, MARK, MTYPE, PACKETS, PARTS, PAYLOAD, RECORD, RECORDS, SEID,
     SIGNAL, STATE, UNUSED,
 };
+use std::io;
 
 // The place of record i; behind every area where a connection cannot have it.
 fn place(i: usize) -> usize
@@ -60,52 +61,56 @@ pub fn config(slot: &[u8]) -> &[u8] {
 }
 
 // The names of a state and of a channel.
-pub fn say_names(state: u8, channel: u8) {
+pub fn say_names(rt: &impl Print, state: u8, channel: u8) -> io::Result<()> {
     phrase(
+        rt,
         b"\x00: idle\n\x01: configured\n\x02: open\n\x03: streaming\n\x04: closing\n\x05: aborting\n",
         state,
         0,
         0,
-    );
-    phrase(b"\x00: none\n\x01: awaited\n\x02: up\n", channel, 0, 0);
+    )?;
+    phrase(rt, b"\x00: none\n\x01: awaited\n\x02: up\n", channel, 0, 0)
 }
 
-fn say_delay(mark: u8, tenths: usize) {
+fn say_delay(rt: &impl Print, mark: u8, tenths: usize) -> io::Result<()> {
     if mark == 0 {
-        say(b"-");
-        return;
+        return say(rt, b"-");
     }
-    fill(b"$", tenths, 0);
+    fill(rt, b"$", tenths, 0)
 }
 
-fn say_config(config: &[u8]) {
+fn say_config(rt: &impl Print, config: &[u8]) -> io::Result<()> {
     if config.len() == 0 {
-        say(b" -\n");
-        return;
+        return say(rt, b" -\n");
     }
-    say(b" ");
-    say_octets(false, config);
-    say(b"\n");
+    say(rt, b" ")?;
+    say_octets(rt, false, config)?;
+    say(rt, b"\n")
 }
 
 // One record: SEID STATE CHANNEL FAR DELAY CONFIG.
-fn show(slot: &[u8]) {
+fn show(rt: &impl Print, slot: &[u8]) -> io::Result<()> {
     if slot.len() != RECORD {
-        return;
+        return Ok(());
     }
-    fill(b"$", wide(slot[SEID]), 0);
-    say_names(slot[STATE], slot[CHANNEL]);
-    fill(b" $ ", wide(slot[FAR]), 0);
-    say_delay(slot[DELAY_MARK], pair(slot[DELAY_HIGH], slot[DELAY_LOW]));
-    say_config(config(slot));
+    fill(rt, b"$", wide(slot[SEID]), 0)?;
+    say_names(rt, slot[STATE], slot[CHANNEL])?;
+    fill(rt, b" $ ", wide(slot[FAR]), 0)?;
+    say_delay(
+        rt,
+        slot[DELAY_MARK],
+        pair(slot[DELAY_HIGH], slot[DELAY_LOW]),
+    )?;
+    say_config(rt, config(slot))
 }
 
-pub fn show_all(saved: &[u8], records: usize) {
+pub fn show_all(rt: &impl Print, saved: &[u8], records: usize) -> io::Result<()> {
     let mut i = 0;
     while i < records {
-        show(record(saved, i));
+        show(rt, record(saved, i))?;
         i += 1;
     }
+    Ok(())
 }
 
 // A delay as it is saved: whether there is one, and its tenths.

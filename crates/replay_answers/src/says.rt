@@ -1,48 +1,48 @@
 // What is written: texts, in which `$` stands for a number, texts of a table, and octets. Each piece is written at once, so that
 // who types a script sees each answer before the next line.
 use crate::octs::{front, lay};
-use libc::STDOUT_FILENO;
 use replay_hexes::spell;
 use replay_script::lines::{part, rest};
 use replay_script::tables::said;
+use std::io;
 
-pub fn say(text: &[u8]) {
-    io::write_all(STDOUT_FILENO, text);
+pub fn say(rt: &impl Print, text: &[u8]) -> io::Result<()> {
+    rt.write_all(text)
 }
 
 // A text from a place on, up to a `$` and with the number for it; answers the place behind it.
-fn piece(text: &[u8], at: usize, number: usize) -> usize {
+fn piece(rt: &impl Print, text: &[u8], at: usize, number: usize) -> io::Result<usize> {
     if text.len() <= at {
-        return at;
+        return Ok(at);
     }
     let before = part(text, at, b'$');
     let end = at + before.len();
-    say(before);
+    say(rt, before)?;
     if end < text.len() {
-        io::print_decimal(STDOUT_FILENO, number as u64);
-        return end + 1;
+        rt.print(number)?;
+        return Ok(end + 1);
     }
-    end
+    Ok(end)
 }
 
 // A text in which the first `$` stands for one number, and the second for another.
-pub fn fill(text: &[u8], a: usize, b: usize) {
-    let second = piece(text, 0, a);
-    let last = piece(text, second, b);
-    say(rest(text, last));
+pub fn fill(rt: &impl Print, text: &[u8], a: usize, b: usize) -> io::Result<()> {
+    let second = piece(rt, text, 0, a)?;
+    let last = piece(rt, text, second, b)?;
+    say(rt, rest(text, last))
 }
 
 // What a table has under a key.
-pub fn phrase(table: &[u8], key: u8, a: usize, b: usize) {
+pub fn phrase(rt: &impl Print, table: &[u8], key: u8, a: usize, b: usize) -> io::Result<()> {
     let name = [key];
-    fill(said(table, &name), a, b);
+    fill(rt, said(table, &name), a, b)
 }
 
 // The same as a line of its own that says something of an answer.
-pub fn sentence(table: &[u8], key: u8, a: usize, b: usize) {
-    say(b"# ");
-    phrase(table, key, a, b);
-    say(b"\n");
+pub fn sentence(rt: &impl Print, table: &[u8], key: u8, a: usize, b: usize) -> io::Result<()> {
+    say(rt, b"# ")?;
+    phrase(rt, table, key, a, b)?;
+    say(rt, b"\n")
 }
 
 // Two digits in capitals, with a blank before them or none, laid into a text; answers the place behind them.
@@ -61,7 +61,7 @@ fn lay_octet(text: &mut [u8], at: usize, parted: bool, octet: u8) -> usize {
 }
 
 // Octets, with a blank before each or none. A packet has at most 672, and 1,366 have room.
-pub fn say_octets(parted: bool, octets: &[u8]) {
+pub fn say_octets(rt: &impl Print, parted: bool, octets: &[u8]) -> io::Result<()> {
     let mut text = [0u8; 4099];
     let mut end = 0;
     let mut i = 0;
@@ -69,7 +69,7 @@ pub fn say_octets(parted: bool, octets: &[u8]) {
         end = lay_octet(&mut text, end, parted, octets[i]);
         i += 1;
     }
-    say(front(&text, end));
+    say(rt, front(&text, end))
 }
 
 // The answers.
@@ -96,8 +96,9 @@ pub const CUT: u8 = b'c';
 pub const NOT_UNDERSTOOD: u8 = b'n';
 
 // An answer, with the octets that it ends in.
-pub fn answer_with(key: u8, a: usize, b: usize, octets: &[u8]) {
+pub fn answer_with(rt: &impl Print, key: u8, a: usize, b: usize, octets: &[u8]) -> io::Result<()> {
     phrase(
+        rt,
         b"b:book $\n\
         r:refused $\n\
         s:silent\n\
@@ -112,11 +113,11 @@ pub fn answer_with(key: u8, a: usize, b: usize, octets: &[u8]) {
         key,
         a,
         b,
-    );
-    say_octets(true, octets);
-    say(b"\n");
+    )?;
+    say_octets(rt, true, octets)?;
+    say(rt, b"\n")
 }
 
-pub fn answer(key: u8, a: usize, b: usize) {
-    answer_with(key, a, b, b"");
+pub fn answer(rt: &impl Print, key: u8, a: usize, b: usize) -> io::Result<()> {
+    answer_with(rt, key, a, b, b"")
 }

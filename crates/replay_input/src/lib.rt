@@ -3,13 +3,14 @@
 
 ghost use Rattle.std.specs.Prelude.{◌<◌};
 
-use libc::STDIN_FILENO;
 use replay_answers::octs::{front, lay};
 use replay_script::lines::{first, rest};
+use std::io;
+use std::io::Read;
 
 // Where the reading is: what was read and not yet taken is from `from` to `to`; `length` octets of the line are there, as many as
 // there is room for where it is too long; `lines` is its number. It is open until its end has come, or that of the input.
-#[derive(Drop)]
+#[derive(Clone, Copy)]
 pub struct Reader {
     pub from: usize,
     pub to: usize,
@@ -32,16 +33,16 @@ fn longer(line: &mut [u8], length: usize, octets: &[u8]) -> usize {
 }
 
 // Reads once; where nothing comes the line ends, and the input with it.
-fn refill(input: &mut [u8], at: Reader) -> Reader {
+fn refill(source: &mut impl Read, input: &mut [u8], at: Reader) -> io::Result<Reader> {
     let mut next = at;
-    let got = libc::read(STDIN_FILENO, input);
+    let got = source.read(input)?;
     next.from = 0;
-    next.to = io::count(got, input);
-    if got <= 0 {
+    next.to = got;
+    if got == 0 {
         next.open = false;
         next.ended = true;
     }
-    next
+    Ok(next)
 }
 
 // Takes what is there, up to the end of the line.
@@ -59,11 +60,16 @@ fn take(input: &[u8], line: &mut [u8], at: Reader) -> Reader {
     next
 }
 
-fn turn(input: &mut [u8], line: &mut [u8], at: Reader) -> Reader {
+fn turn(
+    source: &mut impl Read,
+    input: &mut [u8],
+    line: &mut [u8],
+    at: Reader,
+) -> io::Result<Reader> {
     if at.to <= at.from {
-        return refill(input, at);
+        return refill(source, input, at);
     }
-    take(input, line, at)
+    Ok(take(input, line, at))
 }
 
 // How many turns are left behind one more: none where all is done.
@@ -79,15 +85,20 @@ pub fn fewer(turns: u64, done: bool) -> u64
 
 // The next line; a last line may be without its newline. A proved loop has to end, and nothing says that the line does: so the
 // loop counts its turns down, from a number that no run uses up.
-pub fn next(input: &mut [u8], line: &mut [u8], begun: Reader) -> Reader {
+pub fn next(
+    source: &mut impl Read,
+    input: &mut [u8],
+    line: &mut [u8],
+    begun: Reader,
+) -> io::Result<Reader> {
     let mut at = begun;
     at.length = 0;
     at.open = true;
     at.lines = std::num::wrapping_add_usize(at.lines, 1);
     let mut turns = u64::MAX;
     while turns > 0 {
-        at = turn(input, line, at);
+        at = turn(source, input, line, at)?;
         turns = fewer(turns, !at.open);
     }
-    at
+    Ok(at)
 }

@@ -5,6 +5,7 @@ use replay_answers::octs::pair;
 use replay_answers::says::{fill, say, sentence};
 use replay_script::numbers::wide;
 use rules::layout::{LABEL, LENGTH_HIGH, LENGTH_LOW, MARK, MTYPE, PACKETS, PARTS, PAYLOAD};
+use std::io;
 
 // Label, message type, packet type: the parts of a packet's first octet.
 fn label_of(octet: u8) -> u8 {
@@ -103,8 +104,9 @@ fn key(size: usize, packet: &[u8], gathering: &[u8]) -> u8 {
     }
 }
 
-fn say_why(key: u8) {
+fn say_why(rt: &impl Print, key: u8) -> io::Result<()> {
     sentence(
+        rt,
         b"a:an Abort whose payload is not 1 octet gets no answer\n\
         u:an Abort for a SEID that is not in the book gets no answer\n\
         n:a message that is no command gets no answer\n\
@@ -122,7 +124,7 @@ fn say_why(key: u8) {
         key,
         0,
         0,
-    );
+    )
 }
 
 // Whether the packet was the last of the message that was being gathered: then the key is that of a whole message.
@@ -143,24 +145,25 @@ fn completes(packet: &[u8], key: u8) -> bool {
 }
 
 // What is being gathered, by the link part: a message of several packets of which not all have come.
-pub fn gathering(link: &[u8]) {
+pub fn gathering(rt: &impl Print, link: &[u8]) -> io::Result<()> {
     if link.len() < PAYLOAD {
-        return;
+        return Ok(());
     }
     if link[MARK] == 0 {
-        say(b"# no message is being gathered\n");
-        return;
+        return say(rt, b"# no message is being gathered\n");
     }
     fill(
+        rt,
         b"# part $ of $ of the message",
         wide(link[PARTS]),
         wide(link[PACKETS]),
-    );
+    )?;
     fill(
+        rt,
         b" with label $; $ octets of payload so far\n",
         wide(link[LABEL]),
         pair(link[LENGTH_HIGH], link[LENGTH_LOW]),
-    );
+    )
 }
 
 // Whether something was being gathered.
@@ -171,20 +174,21 @@ fn gathers(link: &[u8]) -> bool {
     link[MARK] != 0
 }
 
-fn dropped(before: &[u8]) {
+fn dropped(rt: &impl Print, before: &[u8]) -> io::Result<()> {
     if gathers(before) {
-        say(b"# the message that was being gathered is dropped\n");
+        return say(rt, b"# the message that was being gathered is dropped\n");
     }
+    Ok(())
 }
 
 // A packet that ended the gathering, or found none.
-fn ended(size: usize, packet: &[u8], before: &[u8]) {
+fn ended(rt: &impl Print, size: usize, packet: &[u8], before: &[u8]) -> io::Result<()> {
     let why = key(size, packet, before);
-    say_why(why);
+    say_why(rt, why)?;
     if completes(packet, why) {
-        return;
+        return Ok(());
     }
-    dropped(before);
+    dropped(rt, before)
 }
 
 fn is_start(packet: &[u8]) -> bool {
@@ -195,13 +199,18 @@ fn is_start(packet: &[u8]) -> bool {
 }
 
 // A packet that was not answered.
-pub fn silent(size: usize, packet: &[u8], before: &[u8], after: &[u8]) {
+pub fn silent(
+    rt: &impl Print,
+    size: usize,
+    packet: &[u8],
+    before: &[u8],
+    after: &[u8],
+) -> io::Result<()> {
     if !gathers(after) {
-        ended(size, packet, before);
-        return;
+        return ended(rt, size, packet, before);
     }
     if is_start(packet) {
-        dropped(before);
+        dropped(rt, before)?;
     }
-    gathering(after);
+    gathering(rt, after)
 }

@@ -10,32 +10,39 @@ use replay_script::numbers::wide;
 use replay_words::{changes, notes, outcomes};
 use rules::Told;
 use rules::layout::{LENGTH_HIGH, LENGTH_LOW, LINK, PAYLOAD};
+use std::io;
 
 // A line for each packet of a reply.
-fn say_reply(size: usize, label: u8, mtype: u8, signal: u8, payload: &[u8]) {
+fn say_reply(
+    rt: &impl Print,
+    size: usize,
+    label: u8,
+    mtype: u8,
+    signal: u8,
+    payload: &[u8],
+) -> io::Result<()> {
     let mut piece = [0u8; 672];
     let count = bridge::packets(size, payload.len());
     let mut i = 0;
     while i < count {
         let cut = bridge::cut(size, label, mtype, signal, payload, i, &mut piece);
         let length = cut.length;
-        answer_with(says::PACKET, 0, 0, front(&piece, length));
+        answer_with(rt, says::PACKET, 0, 0, front(&piece, length))?;
         i += 1;
     }
+    Ok(())
 }
 
 // The answer to a packet; `reply` is the reply's payload.
-pub fn say_told(size: usize, told: Told, reply: &[u8]) {
+pub fn say_told(rt: &impl Print, size: usize, told: Told, reply: &[u8]) -> io::Result<()> {
     let number = told.number;
     if number != 0 {
-        answer(says::REFUSED, wide(number), 0);
-        return;
+        return answer(rt, says::REFUSED, wide(number), 0);
     }
     if told.mtype == 0 {
-        answer(says::SILENT, 0, 0);
-        return;
+        return answer(rt, says::SILENT, 0, 0);
     }
-    say_reply(size, told.label, told.mtype, told.signal, reply);
+    say_reply(rt, size, told.label, told.mtype, told.signal, reply)
 }
 
 // Whether a packet is a whole message.
@@ -69,26 +76,34 @@ fn gathered<'a>(packet: &[u8], gathering: &'a [u8]) -> &'a [u8] {
 }
 
 // What a packet's answer means, if that is asked for.
-pub fn explain(kept: Kept, told: Told, packet: &[u8], before: &[u8], saved: &[u8], reply: &[u8]) {
+pub fn explain(
+    rt: &impl Print,
+    kept: Kept,
+    told: Told,
+    packet: &[u8],
+    before: &[u8],
+    saved: &[u8],
+    reply: &[u8],
+) -> io::Result<()> {
     if !kept.explains {
-        return;
+        return Ok(());
     }
     if told.number != 0 {
-        notes::note(told.number, notes::NO_ENDPOINT, 0, 0, 0);
-        return;
+        return notes::note(rt, told.number, notes::NO_ENDPOINT, 0, 0, 0);
     }
     if told.mtype == 0 {
-        replay_silences::silent(kept.size, packet, link(before), link(saved));
-        return;
+        return replay_silences::silent(rt, kept.size, packet, link(before), link(saved));
     }
     outcomes::reply(
+        rt,
         told.mtype,
         told.signal,
         gathered(packet, link(before)),
         carried(packet),
         reply,
-    );
-    changes::all(before, saved, kept.records);
+    )?;
+    changes::all(rt, before, saved, kept.records)?;
+    Ok(())
 }
 
 // Hands a packet to the bridge.
@@ -98,11 +113,18 @@ fn receive(kept: Kept, book: &[u8], saved: &mut [u8], packet: &[u8], area: &mut 
 }
 
 // packet HEX..; `before` is what was saved before it.
-pub fn packet(kept: Kept, book: &[u8], saved: &mut [u8], before: &[u8], packet: &[u8]) -> u8 {
+pub fn packet(
+    rt: &impl Print,
+    kept: Kept,
+    book: &[u8],
+    saved: &mut [u8],
+    before: &[u8],
+    packet: &[u8],
+) -> io::Result<u8> {
     let mut area = [0u8; 65536];
     let told = receive(kept, book, saved, packet, &mut area);
     let length = told.length;
-    say_told(kept.size, told, front(&area, length));
-    explain(kept, told, packet, before, saved, front(&area, length));
-    FINE
+    say_told(rt, kept.size, told, front(&area, length))?;
+    explain(rt, kept, told, packet, before, saved, front(&area, length))?;
+    Ok(FINE)
 }

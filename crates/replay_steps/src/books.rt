@@ -5,6 +5,7 @@ use replay_answers::says;
 use replay_answers::says::answer;
 use replay_script::numbers::wide;
 use replay_words::notes;
+use std::io;
 
 // The count of endpoints that a book says it has.
 fn entries(book: &[u8]) -> usize {
@@ -15,24 +16,39 @@ fn entries(book: &[u8]) -> usize {
 }
 
 // Answers, and keeps a book that was accepted over a connection of so many records.
-fn adopt(kept: Kept, number: u8, good: u8, records: usize, given: &[u8], book: &mut [u8]) -> Kept {
-    answer(says::BOOK, wide(number), 0);
+fn adopt(
+    rt: &impl Print,
+    kept: Kept,
+    number: u8,
+    good: u8,
+    records: usize,
+    given: &[u8],
+    book: &mut [u8],
+) -> io::Result<Kept> {
+    answer(rt, says::BOOK, wide(number), 0)?;
     if kept.explains {
-        notes::note(number, notes::NO_ENDPOINT, good, 0, 0);
+        notes::note(rt, number, notes::NO_ENDPOINT, good, 0, 0)?;
     }
     if number != 0 {
-        return kept;
+        return Ok(kept);
     }
     lay(book, 0, given);
     let mut next = kept;
     next.book = given.len();
     next.records = records;
-    next
+    Ok(next)
 }
 
 // book HEX..
-pub fn book(kept: Kept, given: &[u8], book: &mut [u8], saved: &mut [u8]) -> Kept {
+pub fn book(
+    rt: &impl Print,
+    kept: Kept,
+    given: &[u8],
+    book: &mut [u8],
+    saved: &mut [u8],
+) -> io::Result<Kept> {
     adopt(
+        rt,
         kept,
         bridge::fresh(given, saved),
         notes::FRESH,
@@ -43,8 +59,9 @@ pub fn book(kept: Kept, given: &[u8], book: &mut [u8], saved: &mut [u8]) -> Kept
 }
 
 // rebook HEX..
-pub fn rebook(kept: Kept, given: &[u8], book: &mut [u8]) -> Kept {
+pub fn rebook(rt: &impl Print, kept: Kept, given: &[u8], book: &mut [u8]) -> io::Result<Kept> {
     adopt(
+        rt,
         kept,
         bridge::check(given),
         notes::KEPT,

@@ -6,26 +6,28 @@ use replay_script::numbers::wide;
 use rules::layout::{
     CHANNEL, CONFIG_LENGTH, DELAY_HIGH, DELAY_LOW, DELAY_MARK, RECORD, SEID, STATE,
 };
+use std::io;
 
 // An octet that has a name, from a table of names.
-fn renamed(seid: usize, table: &[u8], from: u8, to: u8) -> bool {
+fn renamed(rt: &impl Print, seid: usize, table: &[u8], from: u8, to: u8) -> io::Result<bool> {
     if from == to {
-        return false;
+        return Ok(false);
     }
-    fill(b"# SEID $: ", seid, 0);
-    phrase(table, from, 0, 0);
-    say(b" -> ");
-    phrase(table, to, 0, 0);
-    say(b"\n");
-    true
+    fill(rt, b"# SEID $: ", seid, 0)?;
+    phrase(rt, table, from, 0, 0)?;
+    say(rt, b" -> ")?;
+    phrase(rt, table, to, 0, 0)?;
+    say(rt, b"\n")?;
+    Ok(true)
 }
 
 // What is there or not, and its number.
-fn renewed(same: bool, seid: usize, key: u8, n: usize) -> bool {
+fn renewed(rt: &impl Print, same: bool, seid: usize, key: u8, n: usize) -> io::Result<bool> {
     if same {
-        return false;
+        return Ok(false);
     }
     sentence(
+        rt,
         b"f:SEID $: its reported delay is forgotten\n\
         d:SEID $: reported delay $ tenths of a millisecond\n\
         g:SEID $: its configuration is forgotten\n\
@@ -33,8 +35,8 @@ fn renewed(same: bool, seid: usize, key: u8, n: usize) -> bool {
         key,
         seid,
         n,
-    );
-    true
+    )?;
+    Ok(true)
 }
 
 // One of two keys: that of nothing, and that of something.
@@ -53,53 +55,57 @@ fn either(a: bool, b: bool) -> bool {
 }
 
 // One record: whether anything of it has changed.
-fn changed(before: &[u8], after: &[u8]) -> bool {
+fn changed(rt: &impl Print, before: &[u8], after: &[u8]) -> io::Result<bool> {
     if before.len() != RECORD {
-        return false;
+        return Ok(false);
     }
     if after.len() != RECORD {
-        return false;
+        return Ok(false);
     }
     let seid = wide(after[SEID]);
     let state = renamed(
+        rt,
         seid,
         b"\x00:idle\n\x01:configured\n\x02:open\n\x03:streaming\n\x04:closing\n\x05:aborting\n",
         before[STATE],
         after[STATE],
-    );
+    )?;
     let channel = renamed(
+        rt,
         seid,
         b"\x00:channel none\n\x01:channel awaited\n\x02:channel up\n",
         before[CHANNEL],
         after[CHANNEL],
-    );
+    )?;
     let same = octets::same(
         &before[DELAY_MARK..CONFIG_LENGTH],
         &after[DELAY_MARK..CONFIG_LENGTH],
     );
     let delay = renewed(
+        rt,
         same,
         seid,
         key(after[DELAY_MARK], b'f', b'd'),
         pair(after[DELAY_HIGH], after[DELAY_LOW]),
-    );
+    )?;
     let size = after[CONFIG_LENGTH];
     let config = renewed(
+        rt,
         before[CONFIG_LENGTH] == size,
         seid,
         key(size, b'g', b'c'),
         wide(size),
-    );
-    either(either(state, channel), either(delay, config))
+    )?;
+    Ok(either(either(state, channel), either(delay, config)))
 }
 
 // Every record: whether any has changed.
-pub fn all(before: &[u8], after: &[u8], records: usize) -> bool {
+pub fn all(rt: &impl Print, before: &[u8], after: &[u8], records: usize) -> io::Result<bool> {
     let mut any = false;
     let mut i = 0;
     while i < records {
-        any = either(changed(record(before, i), record(after, i)), any);
+        any = either(changed(rt, record(before, i), record(after, i))?, any);
         i += 1;
     }
-    any
+    Ok(any)
 }

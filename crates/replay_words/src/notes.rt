@@ -1,5 +1,6 @@
 // What the host's numbers mean, what the answers that are a number and little more mean, and why a line was not understood.
 use replay_answers::says::sentence;
+use std::io;
 
 // Number 10 says different things of different calls.
 pub const NO_CHANNEL_AWAITED: u8 = b'u';
@@ -36,8 +37,9 @@ fn key(number: u8, ten: u8, good: u8) -> u8 {
     }
 }
 
-pub fn note(number: u8, ten: u8, good: u8, a: usize, b: usize) {
+pub fn note(rt: &impl Print, number: u8, ten: u8, good: u8, a: usize, b: usize) -> io::Result<()> {
     sentence(
+        rt,
         b"A:the book is shorter than 6 octets, an entry or its list runs past the end, or octets are left over\n\
         B:the book does not begin with 48 4C 42\n\
         C:the book's version is not 1\n\
@@ -67,12 +69,13 @@ pub fn note(number: u8, ten: u8, good: u8, a: usize, b: usize) {
         key(number, ten, good),
         a,
         b,
-    );
+    )
 }
 
 // Why a line was not understood.
-pub fn odd_line(why: u8) {
+pub fn odd_line(rt: &impl Print, why: u8) -> io::Result<()> {
     sentence(
+        rt,
         b"\x01:the line is longer than 8191 octets\n\
         \x02:no step has this name\n\
         \x03:no book was accepted yet\n\
@@ -80,5 +83,5 @@ pub fn odd_line(why: u8) {
         why,
         0,
         0,
-    );
+    )
 }

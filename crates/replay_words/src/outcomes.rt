@@ -2,6 +2,7 @@
 use replay_answers::octs::front;
 use replay_answers::says::{fill, phrase, say};
 use replay_script::numbers::wide;
+use std::io;
 
 // The key of a signal: a letter, `@` for those that AVDTP does not define.
 fn signal_key(signal: u8) -> u8 {
@@ -12,8 +13,9 @@ fn signal_key(signal: u8) -> u8 {
 }
 
 // The name of a signal in AVDTP.
-fn say_signal(signal: u8) {
+fn say_signal(rt: &impl Print, signal: u8) -> io::Result<()> {
     phrase(
+        rt,
         b"A:# Discover (01h)\n\
         B:# Get Capabilities (02h)\n\
         C:# Set Configuration (03h)\n\
@@ -31,12 +33,13 @@ fn say_signal(signal: u8) {
         signal_key(signal),
         0,
         0,
-    );
+    )
 }
 
 // The name of a code in AVDTP, section 8.20.6.
-fn say_code(code: u8) {
+fn say_code(rt: &impl Print, code: u8) -> io::Result<()> {
     phrase(
+        rt,
         b"\x11:: rejected with BAD_LENGTH (11h)\n\
         \x12:: rejected with BAD_ACP_SEID (12h)\n\
         \x13:: rejected with SEP_IN_USE (13h)\n\
@@ -55,7 +58,7 @@ fn say_code(code: u8) {
         code,
         0,
         0,
-    );
+    )
 }
 
 // One of two keys, by a length.
@@ -120,8 +123,9 @@ fn check_key(signal: u8, code: u8, category: u8, length: usize) -> u8 {
 }
 
 // The check of the command that failed.
-fn say_check(key: u8) {
+fn say_check(rt: &impl Print, key: u8) -> io::Result<()> {
     phrase(
+        rt,
         b"a:: the payload must be empty\n\
         b:: the payload must be 1 octet\n\
         c:: the payload must be 2 octets or more\n\
@@ -153,8 +157,8 @@ fn say_check(key: u8) {
         key,
         0,
         0,
-    );
-    say(b"\n");
+    )?;
+    say(rt, b"\n")
 }
 
 // Whether a command names every SEID of its payload, or the first alone: Start and Suspend name a list.
@@ -167,37 +171,36 @@ fn lists(signal: u8) -> bool {
 }
 
 // The SEIDs in the octets of a payload.
-fn say_seids(seids: &[u8]) {
+fn say_seids(rt: &impl Print, seids: &[u8]) -> io::Result<()> {
     let mut i = 0;
     while i < seids.len() {
-        say_seid(seids[i]);
+        say_seid(rt, seids[i])?;
         i += 1;
     }
+    Ok(())
 }
 
-fn say_seid(octet: u8) {
-    fill(b" $", wide(octet / 4), 0);
+fn say_seid(rt: &impl Print, octet: u8) -> io::Result<()> {
+    fill(rt, b" $", wide(octet / 4), 0)
 }
 
 // The SEIDs that a command names, whose payload came in two parts; Discover names none.
-fn say_named(signal: u8, before: &[u8], last: &[u8]) {
+fn say_named(rt: &impl Print, signal: u8, before: &[u8], last: &[u8]) -> io::Result<()> {
     if signal == 1 {
-        return;
+        return Ok(());
     }
     if before.len() + last.len() == 0 {
-        return;
+        return Ok(());
     }
-    say(b" for SEID");
+    say(rt, b" for SEID")?;
     if lists(signal) {
-        say_seids(before);
-        say_seids(last);
-        return;
+        say_seids(rt, before)?;
+        return say_seids(rt, last);
     }
     if 0 < before.len() {
-        say_seid(before[0]);
-        return;
+        return say_seid(rt, before[0]);
     }
-    say_seids(front(last, 1));
+    say_seids(rt, front(last, 1))
 }
 
 // The key of what a reject names besides its code: a SEID in Start and Suspend, else a category, where 0 stands for the command.
@@ -210,45 +213,52 @@ fn named_key(signal: u8, named: u8) -> u8 {
 }
 
 // A reject: its code, what it names and the check.
-fn reject(signal: u8, length: usize, named: u8, code: u8) {
-    say_code(code);
+fn reject(rt: &impl Print, signal: u8, length: usize, named: u8, code: u8) -> io::Result<()> {
+    say_code(rt, code)?;
     phrase(
+        rt,
         b"s: at SEID $\n",
         named_key(signal, named),
         wide(named / 4),
         0,
-    );
+    )?;
     phrase(
+        rt,
         b"c: at category $\n",
         named_key(signal, named),
         wide(named),
         0,
-    );
-    say_check(check_key(signal, code, named, length));
+    )?;
+    say_check(rt, check_key(signal, code, named, length))
 }
 
 // A reject's payload is a code, or what it names and a code.
-fn rejected(signal: u8, length: usize, reply: &[u8]) {
+fn rejected(rt: &impl Print, signal: u8, length: usize, reply: &[u8]) -> io::Result<()> {
     if reply.len() == 1 {
-        reject(signal, length, 0, reply[0]);
-        return;
+        return reject(rt, signal, length, 0, reply[0]);
     }
     if reply.len() == 2 {
-        reject(signal, length, reply[0], reply[1]);
+        return reject(rt, signal, length, reply[0], reply[1]);
     }
+    Ok(())
 }
 
 // `mtype` is the reply's message type, and `reply` its payload; the command's payload is what came `before`, and the `last` part.
-pub fn reply(mtype: u8, signal: u8, before: &[u8], last: &[u8], reply: &[u8]) {
-    say_signal(signal);
+pub fn reply(
+    rt: &impl Print,
+    mtype: u8,
+    signal: u8,
+    before: &[u8],
+    last: &[u8],
+    reply: &[u8],
+) -> io::Result<()> {
+    say_signal(rt, signal)?;
     if mtype == 1 {
-        say(b": general reject\n");
-        return;
+        return say(rt, b": general reject\n");
     }
-    say_named(signal, before, last);
+    say_named(rt, signal, before, last)?;
     if mtype == 2 {
-        say(b": accepted\n");
-        return;
+        return say(rt, b": accepted\n");
     }
-    rejected(signal, before.len() + last.len(), reply);
+    rejected(rt, signal, before.len() + last.len(), reply)
 }
