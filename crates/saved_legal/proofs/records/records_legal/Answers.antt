@@ -4,7 +4,6 @@ use native.Mathlib.Omega.{arith}
 use mathlib.Core.Path.{◌≡◌, sym, ap, subst, ◌∙◌}
 use mathlib.Core.List.{List}
 use lib.ListN.{length, get_or}
-use borrow.Author.Tests.{not-true, not-false}
 use Rattle.rules.specs.Saved.{record_room}
 use Rattle.elements_reader.specs.Orders.{TransportFirst}
 use Rattle.octets.specs.Patch.{part}
@@ -29,10 +28,10 @@ room c =
     omega (arith, c.loop-index-test.true, c.count-entries.ensures, c.requires.1)
 
 -- the record that was taken
-slot-long : (c : After-part-slot) → length c.part-slot.result.now ≡ record_room
-slot-long c =
+slot_long : (c : After-part-slot) → length c.part-slot.result.now ≡ record_room
+slot_long c =
     subst (λ (x : List ℕ). length x ≡ record_room) (sym c.part-slot.ensures)
-    (part_length (c.loop-index.index * record_room) record_room c.args.records.now (room c.before.before))
+    (part_length (c.loop-index.index * record_room) record_room c.args.records.now (omega (arith, c.loop-index-test.true, c.count-entries.ensures, c.requires.1)))
 
 -- what the test of a record says
 judged : (c : After-record_legal)
@@ -51,13 +50,12 @@ count-entries-requires c =
     c.requires.0
 
 pub loop-index-init : goal.loop-index-init
-loop-index-init c =
-    (
-      omega arith,
-      omega arith,
-      subst (λ n. RightEntries n c.args.book.now 6) (all_counted c.args.book.now _ c.count-entries.ensures) (right_head c.args.book.now c.requires.0).entries,
-      all_left c.args.book.now c.args.records.now _ c.count-entries.ensures,
-    )
+loop-index-init c = (
+  omega arith,
+  omega arith,
+  subst (λ n. RightEntries n c.args.book.now 6) (all_counted c.args.book.now _ c.count-entries.ensures) (right_head c.args.book.now c.requires.0).entries,
+  all_left c.args.book.now c.args.records.now _ c.count-entries.ensures,
+)
 
 pub overflow_add-size : goal.overflow_add-size
 overflow_add-size c =
@@ -101,17 +99,17 @@ part-requires c =
 
 pub record_legal-requires : goal.record_legal-requires
 record_legal-requires c =
-    (subst TransportFirst (sym c.part.ensures) (entry_first c.args.book.now c.loop-index.at (entry (goal.at.record_legal-requires c).In-loop-index)), slot-long (goal.at.record_legal-requires c).After-part-slot)
+    (subst TransportFirst (sym c.part.ensures) (entry_first c.args.book.now c.loop-index.at (entry (goal.at.record_legal-requires c).In-loop-index)), slot_long (goal.at.record_legal-requires c).After-part-slot)
 
 pub returns-then-not-record_legal : goal.returns-then-not-record_legal
 returns-then-not-record_legal c =
     sym (c.loop-index.invariant.3
     ∙ turn_ends (c.count-entries.result - (c.loop-index.index + 1)) (c.count-entries.result - c.loop-index.index) c.args.book.now c.loop-index.at c.loop-index.awaited c.loop-index.index
-    c.args.records.now (omega arith) (sym (judged (goal.at.returns-then-not-record_legal c).After-record_legal) ∙ not-true _ c.if-not-record_legal.true-raw))
+    c.args.records.now (omega arith) (sym (judged (goal.at.returns-then-not-record_legal c).After-record_legal) ∙ c.if-not-record_legal.true))
 
 pub bounds-slot-2 : goal.bounds-slot-2
 bounds-slot-2 c =
-    omega (arith, slot-long (goal.at.bounds-slot-2 c).After-part-slot)
+    omega (arith, slot_long (goal.at.bounds-slot-2 c).After-part-slot)
 
 pub overflow_add-awaited : goal.overflow_add-awaited
 overflow_add-awaited c =
@@ -129,7 +127,7 @@ loop-index-preserved c =
       other_entries rest (c.count-entries.result - c.loop-index.index) c.args.book.now c.loop-index.at (omega arith) c.loop-index.invariant.2,
       c.loop-index.invariant.3
           ∙ turn_goes_on rest (c.count-entries.result - c.loop-index.index) c.args.book.now c.loop-index.at c.loop-index.awaited c.loop-index.index c.args.records.now (omega arith)
-          (c.loop-index.awaited + c.awaits-awaited.result) (sym (judged (goal.at.loop-index-preserved c).After-record_legal) ∙ not-false _ c.if-not-record_legal.false-raw)
+          (c.loop-index.awaited + c.awaits-awaited.result) (sym (judged (goal.at.loop-index-preserved c).After-record_legal) ∙ c.if-not-record_legal.false)
           (ap (λ (n : ℕ). c.loop-index.awaited + n)
           (c.awaits-awaited.ensures ∙ ap (λ (x : List ℕ). awaits_in (get_or x 2 0)) c.part-slot.ensures)),
     )
