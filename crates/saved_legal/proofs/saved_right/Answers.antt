@@ -1,5 +1,4 @@
 -- `saved_right` meets its contract: the count, the link part and the records are tested apart.
-use borrow.Author.Tests.{not-true, not-false}
 use Prim.Native.Nat.{ℕ, ◌*◌, ◌≤◌}
 use native.Mathlib.Omega.{arith}
 use mathlib.Core.Path.{◌≡◌, sym, ap, subst, ◌∙◌}
@@ -66,19 +65,18 @@ pub returns-then-not-room_legal : goal.returns-then-not-room_legal
 returns-then-not-room_legal c =
     room_wrong (book_of c.args.book.now) c.args.saved.now c.count-entries.result c.count-entries.ensures
     c.if-saved-entries.false (same_count (goal.at.returns-then-not-room_legal c).Else-count_in-entries)
-    (ap room_legal (sym c.link_of.ensures) ∙ sym c.room_legal.ensures ∙ not-true _ c.if-not-room_legal.true-raw)
+    (ap room_legal (sym c.link_of.ensures) ∙ sym c.room_legal.ensures ∙ c.if-not-room_legal.true)
 
 pub records_of-requires : goal.records_of-requires
 records_of-requires c =
     omega (arith, c.if-saved-entries.false)
 
 pub records_legal-requires : goal.records_legal-requires
-records_legal-requires c =
-    (
-      c.requires,
-      subst (λ (x : List ℕ). length (book_of c.args.book.now) * record_room ≤ length x) (sym c.records_of.ensures)
-          (records_room (length (book_of c.args.book.now)) c.args.saved.now (long (goal.at.records_legal-requires c).Else-saved-entries)),
-    )
+records_legal-requires c = (
+  c.requires,
+  subst (λ (x : List ℕ). length (book_of c.args.book.now) * record_room ≤ length x) (sym c.records_of.ensures)
+      (records_room (length (book_of c.args.book.now)) c.args.saved.now (long (goal.at.records_legal-requires c).Else-saved-entries)),
+)
 
 pub returns : goal.returns
 returns c =
@@ -87,4 +85,4 @@ returns c =
     ∙ ap (records_legal book (length book) 0) c.records_of.ensures
     ∙ records_decide book c.args.saved.now c.count-entries.result c.count-entries.ensures c.if-saved-entries.false
     (same_count (goal.at.returns c).Else-count_in-entries)
-    (ap room_legal (sym c.link_of.ensures) ∙ sym c.room_legal.ensures ∙ not-false _ c.if-not-room_legal.false-raw)
+    (ap room_legal (sym c.link_of.ensures) ∙ sym c.room_legal.ensures ∙ c.if-not-room_legal.false)

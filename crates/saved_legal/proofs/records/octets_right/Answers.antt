@@ -1,5 +1,4 @@
 -- `octets_right` meets its contract: the octets with a use, then those without.
-use borrow.Author.Tests.{not-true, not-false}
 use mathlib.Core.Path.{sym, ◌∙◌}
 use Rattle.saved_legal.proofs.EachRecord.{used_wrong, unused_decide}
 use Rattle.saved_legal.proofs.records.octets_right.Goals as goal
@@ -7,10 +6,10 @@ use Rattle.saved_legal.proofs.records.octets_right.Goals as goal
 pub returns-then-not-used_right : goal.returns-then-not-used_right
 returns-then-not-used_right c =
     used_wrong c.args.slot.now
-    (sym c.used_right.ensures ∙ not-true _ c.if-not-used_right.true-raw)
+    (sym c.used_right.ensures ∙ c.if-not-used_right.true)
 
 pub returns : goal.returns
 returns c =
     c.alone.ensures
     ∙ unused_decide c.args.slot.now
-    (sym c.used_right.ensures ∙ not-false _ c.if-not-used_right.false-raw)
+    (sym c.used_right.ensures ∙ c.if-not-used_right.false)

@@ -1,5 +1,5 @@
 -- `used_right` meets its contract: its tests are those of `used_right`, one by one.
-use borrow.Author.Tests.{le-leb, lt-leb, not-true, not-false}
+use borrow.Author.Tests.{le-leb, lt-leb}
 use native.Mathlib.Omega.{arith}
 use mathlib.Core.Path.{sym, ◌∙◌}
 use lib.ListN.{get_or}
@@ -22,7 +22,7 @@ returns-then-not-delay_octets_right c =
     rw (
       le-leb (get_or c.args.slot.now 1 0) 5 c.if-slot-gt5.false,
       le-leb (get_or c.args.slot.now 2 0) 2 c.if-slot-gt2.false,
-      sym c.delay_octets_right.ensures ∙ not-true _ c.if-not-delay_octets_right.true-raw,
+      sym c.delay_octets_right.ensures ∙ c.if-not-delay_octets_right.true,
     )
 
 pub overflow_cast-result : goal.overflow_cast-result
@@ -35,5 +35,5 @@ returns c =
     rw (
       le-leb (get_or c.args.slot.now 1 0) 5 c.if-slot-gt5.false,
       le-leb (get_or c.args.slot.now 2 0) 2 c.if-slot-gt2.false,
-      sym c.delay_octets_right.ensures ∙ not-false _ c.if-not-delay_octets_right.false-raw,
+      sym c.delay_octets_right.ensures ∙ c.if-not-delay_octets_right.false,
     )
