@@ -28,7 +28,7 @@ rejected-requires c =
 
 pub returns-then-not-takes_delay : goal.returns-then-not-takes_delay
 returns-then-not-takes_delay c =
-    delay_refused c.requires c.config.ensures c.takes_delay.ensures c.if-not-takes_delay.true-raw
+    delay_refused c.requires c.config.ensures c.takes_delay.ensures c.if-not-takes_delay.true
     (c.rejected.ensures.said, c.rejected.ensures.reply)
 
 pub get-h-requires : goal.get-h-requires
@@ -57,7 +57,7 @@ overflow_cast-tenths-2 c =
 
 pub overflow_add-tenths : goal.overflow_add-tenths
 overflow_add-tenths c =
-    omega (arith, c.shared_slice_known-3-1.given 1, c.type_inv.payload 2)
+    omega (arith, c.type_inv.payload 1, c.type_inv.payload 2)
 
 pub set_head-requires : goal.set_head-requires
 set_head-requires c =
@@ -65,5 +65,5 @@ set_head-requires c =
 
 pub returns : goal.returns
 returns c =
-    delay_moves c.requires c.config.ensures c.takes_delay.ensures c.if-not-takes_delay.false-raw
+    delay_moves c.requires c.config.ensures c.takes_delay.ensures c.if-not-takes_delay.false
     c.get-h.ensures c.delayed.ensures c.accepted.ensures c.set_head.ensures

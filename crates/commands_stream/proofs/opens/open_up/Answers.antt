@@ -18,7 +18,7 @@ rejected-requires c =
 
 pub returns-then-not-none_awaits : goal.returns-then-not-none_awaits
 returns-then-not-none_awaits c =
-    open_refused c.requires c.count.ensures c.none_awaits.ensures c.if-not-none_awaits.true-raw
+    open_refused c.requires c.count.ensures c.none_awaits.ensures c.if-not-none_awaits.true
     (c.rejected.ensures.said, c.rejected.ensures.reply)
 
 pub get-h-requires : goal.get-h-requires
@@ -31,5 +31,5 @@ set_head-requires c =
 
 pub returns : goal.returns
 returns c =
-    open_moves c.requires c.count.ensures c.none_awaits.ensures c.if-not-none_awaits.false-raw
+    open_moves c.requires c.count.ensures c.none_awaits.ensures c.if-not-none_awaits.false
     c.get-h.ensures c.opened.ensures c.accepted.ensures c.set_head.ensures
