@@ -3,10 +3,9 @@
 use Prim.Native.Nat.{ℕ, ◌*◌}
 use mathlib.Core.Path.{◌≡◌, refl, sym, ap, ◌∙◌}
 use mathlib.Core.List.{List, [], ◌∷◌}
-use mathlib.Core.Bool.{Bool, true, false, not, ◌&&◌}
+use mathlib.Core.Bool.{Bool, true, false, ◌&&◌}
 use lib.Dec.{eqb}
 use lib.ListN.{length, get_or}
-use borrow.Author.Tests.{not-true, not-false}
 use Rattle.rules.specs.Octets.{front}
 use Rattle.rules.specs.Elements.{items, has}
 use Rattle.rules.specs.Book.{Entry, book_of, is_source}
@@ -56,20 +55,20 @@ module _ {book records p reply : List ℕ} {at : Place} (call : Named OpenUp boo
   test : eqb (awaiting (ends_of book records)) 0 ≡ b
   test = sym (none ∙ ap (λ (k : ℕ). eqb (awaiting (ends_in k records)) 0) counts)
 
-  pub open_refused : not b ≡ true → {said : Said} {reply' : List ℕ}
+  pub open_refused : b ≡ false → {said : Said} {reply' : List ℕ}
       → (said ≡ said_of (reject (0x31 ∷ []))) × (reply' ≡ front (0x31 ∷ []) reply)
       → Obeys (obey OpenUp) book records p reply said records reply'
   unfolding obey open_at rejects payload_of
   open_refused f h =
-      did_say call (open_at (ends_of book records)) refl (rejects OpenUp 0 0x31) (rw (test, not-true b f)) h.0 h.1
+      did_say call (open_at (ends_of book records)) refl (rejects OpenUp 0 0x31) (rw (test, f)) h.0 h.1
 
-  pub open_moves : not b ≡ false → {h h' : Head} → h ≡ head_in (record_at at.index records) → h' ≡ opened h
+  pub open_moves : b ≡ true → {h h' : Head} → h ≡ head_in (record_at at.index records) → h' ≡ opened h
       → {said : Said} {records' : List ℕ} → said ≡ said_of (accept [])
       → records' ≡ patch (at.index * record_room) (head_octets h' (config_size_at at.index records)) records
       → Obeys (obey OpenUp) book records p reply said records' reply
   unfolding obey open_at
   open_moves t loads opens s w =
-      did_head call (open_at (ends_of book records)) refl opened (rw (test, not-false b t)) loads opens s w
+      did_head call (open_at (ends_of book records)) refl opened (rw (test, t)) loads opens s w
 
 -- ---- Close and Abort
 
@@ -94,14 +93,14 @@ module _ {book records p reply : List ℕ} {at : Place} (call : Named DelayRepor
       ap (takes_delay (entry_in book p at)) (stands call).shows
       ∙ sym (takes ∙ ap (λ (x : List ℕ). is_source at.kind && has 8 (items x)) there)
 
-  pub delay_refused : not b ≡ true → {said : Said} {reply' : List ℕ}
+  pub delay_refused : b ≡ false → {said : Said} {reply' : List ℕ}
       → (said ≡ said_of (reject (0x19 ∷ []))) × (reply' ≡ front (0x19 ∷ []) reply)
       → Obeys (obey DelayReport) book records p reply said records reply'
   unfolding obey delay_at rejects payload_of
   delay_refused f h =
       did_say call (delay_at (ends_of book records) p) refl (rejects DelayReport 0 0x19) (rw (taken, f)) h.0 h.1
 
-  pub delay_moves : not b ≡ false → {h h' : Head} → h ≡ head_in (record_at at.index records)
+  pub delay_moves : b ≡ true → {h h' : Head} → h ≡ head_in (record_at at.index records)
       → h' ≡ with_delay (Reported (pair_in (get_or p 1 0) (get_or p 2 0))) h → {said : Said} {records' : List ℕ}
       → said ≡ said_of (accept [])
       → records' ≡ patch (at.index * record_room) (head_octets h' (config_size_at at.index records)) records

@@ -3,7 +3,6 @@ use Prim.Native.Nat.{ℕ}
 use mathlib.Core.Path.{◌≡◌}
 use mathlib.Core.List.{List}
 use native.Mathlib.Omega.{arith}
-use borrow.Author.Rules.{rules}
 use borrow.Author.Tests.{eqb-true}
 use lib.ListN.{length}
 use Rattle.rules.specs.Commands.{length_right}
@@ -22,13 +21,9 @@ pub config-requires : goal.config-requires
 config-requires c =
     let it = stands c.requires in (it.inside, it.told)
 
-pub rejected-requires : goal.rejected-requires
-rejected-requires c =
-    search (rules, c.requires.serves.room)
-
 pub returns-then-not-takes_delay : goal.returns-then-not-takes_delay
 returns-then-not-takes_delay c =
-    delay_refused c.requires c.config.ensures c.takes_delay.ensures c.if-not-takes_delay.true-raw
+    delay_refused c.requires c.config.ensures c.takes_delay.ensures c.if-not-takes_delay.true
     (c.rejected.ensures.said, c.rejected.ensures.reply)
 
 pub get-h-requires : goal.get-h-requires
@@ -39,25 +34,9 @@ pub bounds-payload-1 : goal.bounds-payload-1
 bounds-payload-1 c =
     omega (arith, three c.requires)
 
-pub overflow_cast-tenths : goal.overflow_cast-tenths
-overflow_cast-tenths c =
-    omega (arith, c.type_inv.payload 1)
-
-pub overflow_mul-tenths : goal.overflow_mul-tenths
-overflow_mul-tenths c =
-    omega (arith, c.type_inv.payload 1)
-
 pub bounds-payload-2 : goal.bounds-payload-2
 bounds-payload-2 c =
     omega (arith, three c.requires)
-
-pub overflow_cast-tenths-2 : goal.overflow_cast-tenths-2
-overflow_cast-tenths-2 c =
-    omega (arith, c.type_inv.payload 2)
-
-pub overflow_add-tenths : goal.overflow_add-tenths
-overflow_add-tenths c =
-    omega (arith, c.shared_slice_known-3-1.given 1, c.type_inv.payload 2)
 
 pub set_head-requires : goal.set_head-requires
 set_head-requires c =
@@ -65,5 +44,5 @@ set_head-requires c =
 
 pub returns : goal.returns
 returns c =
-    delay_moves c.requires c.config.ensures c.takes_delay.ensures c.if-not-takes_delay.false-raw
+    delay_moves c.requires c.config.ensures c.takes_delay.ensures c.if-not-takes_delay.false
     c.get-h.ensures c.delayed.ensures c.accepted.ensures c.set_head.ensures

@@ -18,9 +18,9 @@ module _ (to : State) (i : ℕ) (l : List ℕ) {h : Head} {b : Bool} (got : h �
   by_channel is =
       ap (λ (x : Bool). left_by x to i l) (sym is ∙ asked ∙ ap (λ (x : Head). is_up x.channel) got)
 
-  with_channel_lem : b ≡ true → {h' : Head} {m : List ℕ} → h' ≡ in_state to h
+  with_channel : b ≡ true → {h' : Head} {m : List ℕ} → h' ≡ in_state to h
       → m ≡ patch (i * record_room) (head_octets h' (config_size_at i l)) l → m ≡ left_at to i l
-  with_channel_lem up moved stored =
+  with_channel up moved stored =
       stored
       ∙ ap (λ (x : Head). patch (i * record_room) (head_octets x (config_size_at i l)) l) (moved ∙ ap (in_state to) got)
       ∙ by_channel up
@@ -34,18 +34,18 @@ module _ (to : State) (i : ℕ) (l : List ℕ) {h : Head} {b : Bool} (got : h �
 
 pub returns-then-is_up : goal.returns-then-is_up
 returns-then-is_up c =
-    let both = (
-      c.accepted.ensures,
-      with_channel_lem c.args.to c.args.index c.args.records.now c.get-h.ensures c.is_up.ensures c.if-is_up.true
-          c.in_state.ensures c.set_head.ensures,
-    ) in
-    record { said = both.0; records = both.1 }
+    record {
+      said = c.accepted.ensures;
+      records =
+          with_channel c.args.to c.args.index c.args.records.now c.get-h.ensures c.is_up.ensures c.if-is_up.true
+          c.in_state.ensures c.set_head.ensures;
+    }
 
 pub returns : goal.returns
 returns c =
-    let both = (
-      c.accepted-2.ensures,
-      without c.args.to c.args.index c.args.records.now c.get-h.ensures c.is_up.ensures c.if-is_up.false
-          c.idle.ensures c.set.ensures,
-    ) in
-    record { said = both.0; records = both.1 }
+    record {
+      said = c.accepted-2.ensures;
+      records =
+          without c.args.to c.args.index c.args.records.now c.get-h.ensures c.is_up.ensures c.if-is_up.false
+          c.idle.ensures c.set.ensures;
+    }

@@ -58,17 +58,17 @@ loop-i-init c =
 
 pub returns-then-records-i-eq1 : goal.returns-then-records-i-eq1
 returns-then-records-i-eq1 c =
-    await_here (c.args.count - (c.loop-i.i + 1)) (c.args.count - c.loop-i.i) c.args.records.now c.loop-i.i (omega arith) c.if-records-i-eq1.true
+    await_here (c.args.count - (c.loop-i.i + 1)) (c.args.count - c.loop-i.i) c.args.records.now c.loop-i.i (omega arith)
+    c.if-records-i-eq1.true
     ∙ ap (λ n. eqb n 0) (sym c.loop-i.invariant.1)
 
 pub loop-i-preserved : goal.loop-i-preserved
-loop-i-preserved c =
-    (
-      omega arith,
-      c.loop-i.invariant.1
-          ∙ await_later (c.args.count - (c.loop-i.i + 1)) (c.args.count - c.loop-i.i) c.args.records.now c.loop-i.i (omega arith)
-          c.if-records-i-eq1.false,
-    )
+loop-i-preserved c = (
+  omega arith,
+  c.loop-i.invariant.1
+      ∙ await_later (c.args.count - (c.loop-i.i + 1)) (c.args.count - c.loop-i.i) c.args.records.now c.loop-i.i (omega arith)
+      c.if-records-i-eq1.false,
+)
 
 pub returns : goal.returns
 returns c =

@@ -6,7 +6,9 @@ use Rattle.rules.specs.Saved.{record_room, ends_in}
 use Rattle.commands_stream.proofs.opens.none_awaits.Given as goal
 
 abbrev pub invariant-loop-i : goal.invariant-loop-i
-invariant-loop-i l = (l.i ≤ l.count) × (awaiting (ends_in l.count l.records) ≡ awaiting (ends_in (l.count - l.i) (drop (l.i * record_room) l.records)))
+invariant-loop-i l =
+    (l.i ≤ l.count)
+    × (awaiting (ends_in l.count l.records) ≡ awaiting (ends_in (l.count - l.i) (drop (l.i * record_room) l.records)))
 
 abbrev pub decreases-loop-i : goal.decreases-loop-i
 decreases-loop-i l = l.count - l.i

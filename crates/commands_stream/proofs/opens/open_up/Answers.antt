@@ -1,24 +1,11 @@
 -- `open_up` meets its contract: by whether one awaits its channel, the endpoint that was met is refused or opened.
-use borrow.Author.Rules.{rules}
 use Rattle.commands_checks.proofs.Meeting.{stands}
 use Rattle.commands_stream.proofs.Moving.{open_refused, open_moves}
 use Rattle.commands_stream.proofs.opens.open_up.Goals as goal
 
-pub count-requires : goal.count-requires
-count-requires c =
-    c.requires.serves.right
-
-pub none_awaits-requires : goal.none_awaits-requires
-none_awaits-requires c =
-    search (rules, c.requires.serves.held.room)
-
-pub rejected-requires : goal.rejected-requires
-rejected-requires c =
-    search (rules, c.requires.serves.room)
-
 pub returns-then-not-none_awaits : goal.returns-then-not-none_awaits
 returns-then-not-none_awaits c =
-    open_refused c.requires c.count.ensures c.none_awaits.ensures c.if-not-none_awaits.true-raw
+    open_refused c.requires c.count.ensures c.none_awaits.ensures c.if-not-none_awaits.true
     (c.rejected.ensures.said, c.rejected.ensures.reply)
 
 pub get-h-requires : goal.get-h-requires
@@ -31,5 +18,5 @@ set_head-requires c =
 
 pub returns : goal.returns
 returns c =
-    open_moves c.requires c.count.ensures c.none_awaits.ensures c.if-not-none_awaits.false-raw
+    open_moves c.requires c.count.ensures c.none_awaits.ensures c.if-not-none_awaits.false
     c.get-h.ensures c.opened.ensures c.accepted.ensures c.set_head.ensures
