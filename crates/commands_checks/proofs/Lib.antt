@@ -1,3 +1,2 @@
-mod Signals
 pub mod Meeting
 pub mod Acting

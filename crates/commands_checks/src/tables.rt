@@ -5,6 +5,7 @@ ghost use Rattle.rules.specs.Commands.{signal_of, length_right, wrong_state, may
 use rules::{Channel, Signal, State};
 use saved_states::{is_configured, is_idle, is_open, is_set, is_streaming, is_up};
 
+#[tactic(auto, unfolding(rules::specs::Commands::signal_of))]
 pub fn signal_of(signal: u8) -> Signal
     ensures { result ≡ signal_of signal }
 {
@@ -26,6 +27,7 @@ pub fn signal_of(signal: u8) -> Signal
     }
 }
 
+#[tactic(auto, unfolding(rules::specs::Commands::length_right))]
 pub fn length_right(signal: Signal, length: usize) -> bool
     ensures { result ≡ length_right signal length }
 {
@@ -48,6 +50,7 @@ pub fn length_right(signal: Signal, length: usize) -> bool
 }
 
 // Whether an endpoint takes the command in its state.
+#[tactic(auto, unfolding(rules::specs::Commands::may))]
 pub fn may(signal: Signal, state: State, channel: Channel) -> bool
     ensures { result ≡ mayTake signal state channel }
 {
@@ -70,6 +73,7 @@ pub fn may(signal: Signal, state: State, channel: Channel) -> bool
 }
 
 // The code where it does not.
+#[tactic(auto, unfolding(rules::specs::Commands::wrong_state))]
 pub fn wrong_state(signal: Signal, state: State) -> u8
     ensures { result ≡ wrong_state signal state }
 {

@@ -59,6 +59,7 @@ fn shift(
 }
 
 // 07 Start.
+#[tactic(auto, unfolding(rules::specs::Commands::obey))]
 pub fn start(book: &[u8], records: &mut [u8], payload: &[u8], reply: &mut [u8]) -> Said
     requires { Serves book.now records.old payload.now reply.old }
     ensures { Obeys (obey Start) book.now records.old payload.now reply.old
@@ -75,6 +76,7 @@ pub fn start(book: &[u8], records: &mut [u8], payload: &[u8], reply: &mut [u8]) 
 }
 
 // 09 Suspend.
+#[tactic(auto, unfolding(rules::specs::Commands::obey))]
 pub fn suspend(book: &[u8], records: &mut [u8], payload: &[u8], reply: &mut [u8]) -> Said
     requires { Serves book.now records.old payload.now reply.old }
     ensures { Obeys (obey Suspend) book.now records.old payload.now reply.old

@@ -1,6 +1,6 @@
 -- Marks: what is marked of a category once an element was passed; which categories marks show as seen; that they tell which
 -- categories a list has; and the marks from a place on, by what stands there. The lists go by their octets, the rest by cases.
-use Prim.Native.Nat.{ℕ, zero, suc, ◌+◌}
+use Prim.Native.Nat.{ℕ, zero, suc, ◌+◌, ◌<◌}
 use mathlib.Core.Path.{◌≡◌, refl, sym, ap, ap₂, ◌∙◌}
 use mathlib.Core.List.{List, [], ◌∷◌, ◌++◌, append-nil}
 use mathlib.Core.Bool.{Bool, true, false, not, ◌&&◌, ◌||◌}
@@ -20,7 +20,7 @@ use Rattle.elements_reader.specs.declared.Element.TheVariants.{End, Short, Whole
 use Rattle.elements_reader.proofs.Stands.{behind}
 use Rattle.elements.specs.Marks.{mark_of, marked, is_whole, marks_past, marks_from, seen_as, seen_in}
 use Rattle.elements.specs.declared.marks.Marks.{Marks}
-use Rattle.elements_offers.proofs.Categories.{NoneOf, number_of, known_number}
+use Rattle.elements_offers.proofs.Categories.{number_of, known_number}
 
 -- ---- An element passed
 
@@ -28,10 +28,19 @@ use Rattle.elements_offers.proofs.Categories.{NoneOf, number_of, known_number}
 pub pass_key : (c k first : ℕ) (m : Marks) → c ≡ k → marked k first m ≡ marked c first m
 pass_key c k first m e = ap (λ n. marked n first m) (sym e)
 
-pub pass_other : (c first : ℕ) (m : Marks) → NoneOf 8 c → m ≡ marked c first m
+pub pass_other : (c first : ℕ) (m : Marks) → (0 < c → 8 < c) → m ≡ marked c first m
 unfolding marked
-pass_other c first m ((((((((_, h₁), h₂), h₃), h₄), h₅), h₆), h₇), h₈) =
-    rw (ne_eqb c 1 h₁, ne_eqb c 2 h₂, ne_eqb c 3 h₃, ne_eqb c 4 h₄, ne_eqb c 5 h₅, ne_eqb c 6 h₆, ne_eqb c 7 h₇, ne_eqb c 8 h₈)
+pass_other c first m h =
+    rw (
+      ne_eqb c 1 (λ e. omega arith),
+      ne_eqb c 2 (λ e. omega arith),
+      ne_eqb c 3 (λ e. omega arith),
+      ne_eqb c 4 (λ e. omega arith),
+      ne_eqb c 5 (λ e. omega arith),
+      ne_eqb c 6 (λ e. omega arith),
+      ne_eqb c 7 (λ e. omega arith),
+      ne_eqb c 8 (λ e. omega arith),
+    )
 
 mark_by : (k : Category) (c first : ℕ) (m : Marks) → is_strange k ≡ false
     → mark_of k (marked c first m) ≡ if eqb c (number_of k) then first else mark_of k m

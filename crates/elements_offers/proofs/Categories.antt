@@ -74,19 +74,11 @@ pub known_not_0 : (c : ℕ) → is_strange (category_of c) ≡ false → c ≡ 0
 unfolding is_strange category_of
 known_not_0 c e z = clash (sym (at_key is_strange z)) e
 
--- none of the numbers 1 to k, as the last arm of a `match` on them tells it
-abbrev pub NoneOf : ℕ → ℕ → Type 0
-NoneOf zero c = Unit {0}
-NoneOf (suc k) c = NoneOf k c × (c ≡ suc k → ⊥)
-
-none_above : (k c : ℕ) → NoneOf k c → (c ≡ 0 → ⊥) → k < c
-none_above zero c h f = omega arith
-none_above (suc k) c h f = omega (arith, none_above k c h.0 f, h.1)
-
-pub other_strange : (c : ℕ) → NoneOf 8 c → category_of c ≡ strange
+-- a number that is none of those from 1 to 8
+pub other_strange : (c : ℕ) → (0 < c → 8 < c) → category_of c ≡ strange
 unfolding category_of
 other_strange c h = go (told (eqb c 0))
   where
     go : Told? (eqb c 0) → category_of c ≡ strange
     go (passed t) = ap category_of (eqb-true c 0 t)
-    go (failed t) = above_is_strange c (none_above 8 c h (eqb-false c 0 t))
+    go (failed t) = let f = eqb-false c 0 t in above_is_strange c (h (omega arith))

@@ -1,7 +1,7 @@
 -- What Set Configuration could have stored is what is in order: stored elements are picked in that order, each fine; and elements
 -- in order have no fault, and of each category the element itself is picked. So a configuration is judged in one walk and is not
 -- stored again.
-use Prim.Native.Nat.{ℕ, zero, suc, ◌/◌, ◌%◌, ◌*◌, ◌≤◌, ◌<◌}
+use Prim.Native.Nat.{ℕ, suc, ◌/◌, ◌%◌, ◌*◌, ◌≤◌, ◌<◌}
 use native.Mathlib.Omega.{arith}
 use mathlib.Core.Path.{◌≡◌, refl, sym, ap, ap₂, subst, ◌∙◌}
 use mathlib.Core.List.{List, [], ◌∷◌, ◌++◌}

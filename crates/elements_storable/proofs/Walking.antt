@@ -3,6 +3,7 @@
 use Prim.Native.Nat.{ℕ, ◌%◌, ◌≤◌, ◌<◌}
 use mathlib.Core.Path.{◌≡◌, refl, sym, ap, ◌∙◌}
 use mathlib.Core.List.{List, [], ◌∷◌}
+use mathlib.Core.Logic.{inl, inr}
 use mathlib.Core.Bool.{Bool, true, false}
 use lib.ListN.{length, take, drop, get_or}
 use lib.Dec.{eqb}
@@ -11,8 +12,17 @@ use Rattle.rules.specs.Octets.{member}
 use Rattle.rules.specs.Elements.{Item, offered}
 use Rattle.rules.proofs.Tests.{and-false}
 use Rattle.elements_reader.specs.Orders.{reserved_zero, setting_test}
+use Rattle.elements_reader.specs.declared.Element.{Element}
+use Rattle.elements_reader.specs.declared.Element.TheVariants.{End, Short, Whole}
+use Rattle.elements_reader.proofs.Stands.{NoWhole}
 use Rattle.elements_reader.proofs.InOrder.{empty_right, two_right}
 use Rattle.octets.specs.Patch.{part}
+
+-- what is known where a `let` of a whole element goes its other way
+pub no_whole : (h : Element) → ((d n first : ℕ) → h ≡ Whole d n first → ⊥) → NoWhole h
+no_whole End f = inl refl
+no_whole (Short d) f = inr refl
+no_whole (Whole d n first) f = absurd (f d n first refl)
 
 -- what is told of a value that is lent as a part of the list
 pub lent_told : (caps : List Item) (k first n : ℕ) (l : List ℕ) {w : List ℕ} {r b : Bool} → w ≡ part first n l

@@ -34,6 +34,11 @@ pub record Written (p : Piece) (packet area after : List ℕ) : Type 0 where
   pub size : p.length ≡ length packet
   pub octets : after ≡ front packet area
 
+-- the message that `echo` is asked to cut
+abbrev pub message_of : ℕ → ℕ → ℕ → List ℕ → Message
+message_of label mtype signal payload =
+    record { header = record { label = label; mtype = mtype; signal = signal }; payload = payload }
+
 -- a whole message: what `echo` asks
 pub record Whole (size : ℕ) (m : Message) : Type 0 where
   pub right : size_right size ≡ true

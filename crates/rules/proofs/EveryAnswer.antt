@@ -28,7 +28,7 @@ use Rattle.rules.specs.Host.{settings_call, heard_at, delay_call, packets_call, 
 use Rattle.rules.specs.Host.{status_call}
 use Rattle.rules.specs.Bursts.{packets_in, slot, most_packets, burst_room, and_then, successive, burst_refusal}
 use Rattle.rules.specs.Bursts.{BurstAnswered, burst_taken, burst_call}
-use Rattle.rules.specs.Sessions.{Call, check, fresh, packet, event, settings, delay, packets, cut, number, told, shown}
+use Rattle.rules.specs.Sessions.{Call, check, fresh, packet, event, settings, delay, packets, cut, number, shown}
 use Rattle.rules.specs.Sessions.{heard, cut_off, keeping, answered, asked, call, answers, status, stands, burst}
 use Rattle.rules.specs.Sessions.{answered_each}
 use Rattle.rules.specs.Table.{trace_book}

@@ -26,7 +26,6 @@ use Rattle.rules.specs.declared.Event.{Event}
 use Rattle.rules.specs.declared.Standing.{Standing}
 use Rattle.rules.specs.declared.Heard.{Heard}
 use borrow.Author.Tests.{eqb-true}
-use Rattle.rules.proofs.Tests.{told}
 use Rattle.rules.proofs.Outcomes.{if_arms}
 
 pub nothing_written : (area : List ℕ) → front [] area ≡ area

@@ -29,7 +29,7 @@ use Rattle.rules.specs.Host.{takes, packet_call, event_call, shown_at, settings_
 use Rattle.rules.specs.Host.{standing_at}
 use Rattle.rules.specs.Bursts.{packets_in, slot, Successive, and_then, successive, burst_refusal, filled, none_told}
 use Rattle.rules.specs.Bursts.{burst_taken, burst_call}
-use Rattle.rules.specs.Sessions.{Call, check, fresh, packet, event, settings, delay, packets, cut, number, told, shown}
+use Rattle.rules.specs.Sessions.{Call, check, fresh, packet, event, settings, delay, packets, cut, number, shown}
 use Rattle.rules.specs.Sessions.{heard, Done, keeping, answered, asked, call, status, stands, burst, told_each}
 use Rattle.rules.specs.Sessions.{answered_each}
 use Rattle.rules.specs.Views.{packet_number, burst_number, Handed, takes_each, says, goes, View, Stepped}

@@ -20,8 +20,4 @@ gather-requires c =
 pub returns : goal.returns
 unfolding gathered_area link_of
 returns c =
-    let both = (
-      c.gather.ensures.next,
-      link_back c.args.saved.now _ ∙ ap (λ (x : List ℕ). with_link x c.args.saved.now) c.gather.ensures.room,
-    ) in
-    record { next = both.0; saved = both.1 }
+    record { next = c.gather.ensures.next; saved = link_back c.args.saved.now _ ∙ ap (λ (x : List ℕ). with_link x c.args.saved.now) c.gather.ensures.room }

@@ -12,6 +12,7 @@ use Rattle.rules.proofs.SavedReads.{octets_known}
 use Rattle.octets.proofs.Tails.{behind_whole}
 use Rattle.bridge_packet.proofs.Taking.{room_right, nothing_done, single_header, single_serves, single_done, joined_serves}
 use Rattle.bridge_packet.proofs.Taking.{joined_done}
+use borrow.Enum.Refused.{opened}
 use Rattle.bridge_packet.proofs.take.Goals as goal
 use Rattle.bridge_packet.proofs.take.Goals.{After-gathered-then, After-slice_known-1}
 
@@ -70,5 +71,5 @@ returns-in_default c =
     nothing_done c.args.book.now c.args.size c.args.saved.now c.args.packet.now c.args.reply.now c.pre
     (known (goal.at.returns-in_default c).After-slice_known-1) _ _
     c.gathered-then.ensures.saved c.nothing.ensures
-    (none_done c.args.size room c.args.packet.now c.gathered-then.result c.in_default.in_default-own.keys3
+    (none_done c.args.size room c.args.packet.now c.gathered-then.result (opened c.in_default.in_default-own.keys3)
     (room_told c.args.size room c.args.packet.now _ (next (goal.at.returns-in_default c).After-gathered-then _ refl)))

@@ -21,7 +21,9 @@ alike area e h =
 pub returns-in-SetConfiguration : goal.returns-in-SetConfiguration
 unfolding payload_of
 returns-in-SetConfiguration c =
-    let both = alike c.args.reply.now (rejects_two _ (opened c.in-SetConfiguration.in-SetConfiguration-own.keys1) _ _) (c.rejected_for.ensures.said, c.rejected_for.ensures.reply) in
+    let both = alike c.args.reply.now
+    (rejects_two c.args.signal (search rules) c.args.what c.args.code)
+    (c.rejected_for.ensures.said, c.rejected_for.ensures.reply) in
     record { said = both.0; reply = both.1 }
 
 pub returns-in-Abort : goal.returns-in-Abort
@@ -37,5 +39,7 @@ returns-in-Unassigned c =
 pub returns-in_default : goal.returns-in_default
 unfolding payload_of
 returns-in_default c =
-    let both = alike c.args.reply.now (rejects_one _ (opened c.in_default.in_default-own.keys4) _ _) (c.rejected.ensures.said, c.rejected.ensures.reply) in
+    let both = alike c.args.reply.now
+    (rejects_one c.args.signal (search (rules, opened)) c.args.what c.args.code)
+    (c.rejected.ensures.said, c.rejected.ensures.reply) in
     record { said = both.0; reply = both.1 }

@@ -1,10 +1,9 @@
 -- `offers` meets its contract: the items from a place on are told by what stands there, so the first decides or the rest does.
 -- The measure is what is left of the list.
 use Prim.Native.Nat.{ℕ, ◌+◌}
-use mathlib.Core.Path.{◌≡◌, sym, ap, ◌∙◌}
+use mathlib.Core.Path.{◌≡◌, refl, sym, ap, ◌∙◌}
 use mathlib.Core.List.{List}
 use mathlib.Core.Bool.{true, false}
-use mathlib.Core.Logic.{⊎_elim}
 use native.Mathlib.Omega.{arith}
 use lib.ListN.{drop}
 use borrow.Author.Tests.{eq-eqb, ne_eqb}
@@ -14,19 +13,20 @@ use Rattle.elements_reader.specs.Standing.{element_at, items_by}
 use Rattle.elements_reader.specs.declared.Element.{Element}
 use Rattle.elements_reader.specs.declared.Element.TheVariants.{End, Short, Whole}
 use Rattle.octets.specs.Patch.{part}
-use Rattle.elements_reader.proofs.Stands.{NoWhole, not_whole, stands_whole, items_by_lem}
-use borrow.Enum.Refused.{opened}
+use Rattle.elements_reader.proofs.Stands.{stands_whole, items_by_lem}
 use Rattle.elements_offers.proofs.+offers.Goals as goal
+use Rattle.elements_offers.proofs.+offers.Goals.{then-c-category+else-value_within, else-c-category}
 
 module _ (l : List ℕ) (at c : ℕ) (v : List ℕ) where
   offered_by : {h : Element} → h ≡ element_at l at → offered (items_by h l) c v ≡ offered (items (drop at l)) c v
   offered_by e = ap (λ h. offered (items_by h l) c v) e ∙ ap (λ is. offered is c v) (sym (items_by_lem l at))
 
-  offered_none : (h : Element) → h ≡ element_at l at → NoWhole h → false ≡ offered (items (drop at l)) c v
+  offered_none : (h : Element) → h ≡ element_at l at → ((d n first : ℕ) → h ≡ Whole d n first → ⊥)
+      → false ≡ offered (items (drop at l)) c v
   unfolding offered some_of items_by offers_in
   offered_none End e k = offered_by e
   offered_none (Short d) e k = offered_by e
-  offered_none (Whole d n first) e k = not_whole k
+  offered_none (Whole d n first) e k = absurd (k d n first refl)
 
   module _ (d n first : ℕ) (e : Whole d n first ≡ element_at l at) where
     offered_here : d ≡ c → true ≡ value_within (category_of c) v (part first n l) → true ≡ offered (items (drop at l)) c v
@@ -45,8 +45,7 @@ module _ (l : List ℕ) (at c : ℕ) (v : List ℕ) where
 -- no whole element
 pub returns-in_default : goal.returns-in_default
 returns-in_default t c =
-    offered_none c.args.caps.now c.args.at c.args.category c.args.value.now _ c.element_at-element.ensures
-    (opened c.in_default.in_default-own.keys2)
+    offered_none c.args.caps.now c.args.at c.args.category c.args.value.now _ c.element_at-element.ensures c.in_default.not-Whole
 
 -- what `part` requires
 pub part-requires : goal.part-requires
@@ -81,11 +80,11 @@ offers-requires t c =
 pub returns : goal.returns
 returns t c =
     let there = sym c.in-Whole.is ∙ c.element_at-element.ensures in
-    c.offers.ensures
-    ∙ ⊎_elim
-    (λ w.
-    offered_without c.args.caps.now c.args.at c.args.category c.args.value.now _ _ _ there w.0.taken
-    (sym (w.2.ensures ∙ ap (value_within (category_of c.args.category) c.args.value.now) w.1.ensures)
-    ∙ w.3.left))
-    (λ w. offered_other c.args.caps.now c.args.at c.args.category c.args.value.now _ _ _ there w.left)
-    c.if-c-category.branch
+    c.offers.ensures ∙ elim c.if-c-category.branch [
+      | then-c-category+else-value_within w ↦
+          offered_without c.args.caps.now c.args.at c.args.category c.args.value.now _ _ _ there w.if-c-category.true
+          (sym (w.value_within.ensures ∙ ap (value_within (category_of c.args.category) c.args.value.now) w.part.ensures)
+          ∙ w.if-value_within.false)
+      | else-c-category w ↦
+          offered_other c.args.caps.now c.args.at c.args.category c.args.value.now _ _ _ there w.if-c-category.false
+    ]

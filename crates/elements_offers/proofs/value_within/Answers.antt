@@ -3,6 +3,7 @@ use Prim.Native.Nat.{ℕ}
 use mathlib.Core.Path.{◌≡◌, refl, ◌∙◌}
 use mathlib.Core.List.{List}
 use mathlib.Core.Bool.{true}
+use native.Mathlib.Omega.{arith}
 use Rattle.rules.specs.Elements.{Category, category_of, transport, reporting, recovery, protection, compression, multiplexing}
 use Rattle.rules.specs.Elements.{codec, delaying, strange, is_strange, value_within}
 use Rattle.elements_offers.proofs.Categories.{at_key, number_of, apart}
@@ -35,4 +36,4 @@ returns-in-7 c =
 
 pub returns-in_default : goal.returns-in_default
 returns-in_default c =
-    others c.args.category c.args.value.now c.args.offer.now c.in_default.in_default-own.rest.0.1 c.in_default.in_default-own.rest.1
+    others c.args.category c.args.value.now c.args.offer.now (omega arith) (omega arith)

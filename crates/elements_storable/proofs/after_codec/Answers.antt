@@ -1,65 +1,45 @@
 -- `after_codec` meets its contract: what stands at the place decides; behind delay reporting nothing may follow.
-use Prim.Native.Nat.{◌+◌, ◌≤◌}
-use mathlib.Core.Path.{◌≡◌, refl, sym, ◌∙◌}
-use mathlib.Core.List.{List}
+use mathlib.Core.Path.{refl, sym, ◌∙◌}
 use mathlib.Core.Bool.{false}
 use native.Mathlib.Omega.{arith}
-use lib.ListN.{length}
-use borrow.Author.Tests.{ne_eqb, not-true, not-false}
+use borrow.Author.Tests.{ne_eqb}
 use Rattle.rules.specs.Octets.{member}
-use Rattle.rules.specs.Elements.{Item, items}
+use Rattle.rules.specs.Elements.{items}
 use Rattle.elements_reader.specs.Orders.{followers, setting_test}
-use Rattle.elements_reader.specs.Standing.{element_at}
-use Rattle.elements_reader.specs.declared.Element.TheVariants.{Whole}
 use Rattle.elements_reader.proofs.Stands.{stands_whole, value_length}
 use Rattle.elements_reader.proofs.OrderAt.{left_end, left_short, left_other, left_refused, left_on, left_last}
 use Rattle.elements_storable.proofs.Walking.{lent_told, not_offered, value_there, value_empty}
 use Rattle.elements_storable.proofs.after_codec.Goals as goal
-use Rattle.elements_storable.proofs.after_codec.Goals.{In-Whole-2}
-
--- ---- The element that stands at the place
-
-abbrev caps-of : In-Whole-2 → List Item
-caps-of p = items p.args.caps.now
-
-there : (p : In-Whole-2)
-    → Whole p.in-Whole.category p.in-Whole.length p.in-Whole.first
-    ≡ element_at p.args.list.now p.args.at
-there p = sym p.in-Whole.is ∙ p.element_at-element.ensures
-
-inside : (p : In-Whole-2)
-    → p.in-Whole.first + p.in-Whole.length ≤ length p.args.list.now
-inside p = (stands_whole _ _ _ _ _ (there p)).3
 
 -- another category
 pub returns-then-category-ne8 : goal.returns-then-category-ne8
 unfolding followers member
 returns-then-category-ne8 c =
-    left_other false (setting_test (caps-of (goal.at.returns-then-category-ne8 c).In-Whole-2)) 7 _ _ _ _ _ (there (goal.at.returns-then-category-ne8 c).In-Whole-2) (rw (ne_eqb _ 8 c.if-category-ne8.true))
+    left_other false (setting_test (items c.args.caps.now)) 7 _ _ _ _ _ c.in-Whole.ensures (rw (ne_eqb _ 8 c.if-category-ne8.true))
 
 -- delay reporting with a value
 pub returns-then-length-ne0 : goal.returns-then-length-ne0
 unfolding followers member
 returns-then-length-ne0 c =
-    left_refused false (setting_test (caps-of (goal.at.returns-then-length-ne0 c).In-Whole-2)) 7 _ _ _ _ _ (there (goal.at.returns-then-length-ne0 c).In-Whole-2) 8 c.if-category-ne8.false refl
-    (value_there (caps-of (goal.at.returns-then-length-ne0 c).In-Whole-2) _ _ (value_length _ _ _ _ _ (there (goal.at.returns-then-length-ne0 c).In-Whole-2)) 8 refl c.if-length-ne0.true)
+    left_refused false (setting_test (items c.args.caps.now)) 7 _ _ _ _ _ c.in-Whole.ensures 8 c.if-category-ne8.false refl
+    (value_there (items c.args.caps.now) _ _ (value_length _ _ _ _ _ c.in-Whole.ensures) 8 refl c.if-length-ne0.true)
 
 pub part-requires : goal.part-requires
 part-requires c =
-    inside (goal.at.part-requires c).In-Whole-2
+    (stands_whole _ _ _ _ _ c.in-Whole.ensures).3
 
 -- one that is not offered
 pub returns-then-not-is_offered : goal.returns-then-not-is_offered
 unfolding followers member
 returns-then-not-is_offered c =
-    left_refused false (setting_test (caps-of (goal.at.returns-then-not-is_offered c).In-Whole-2)) 7 _ _ _ _ _ (there (goal.at.returns-then-not-is_offered c).In-Whole-2) 8 c.if-category-ne8.false refl
-    (not_offered (caps-of (goal.at.returns-then-not-is_offered c).In-Whole-2) 8 _
-    (lent_told (caps-of (goal.at.returns-then-not-is_offered c).In-Whole-2) 8 _ _ _ c.part.ensures c.is_offered.ensures
-    (not-true _ c.if-not-is_offered.true-raw)))
+    left_refused false (setting_test (items c.args.caps.now)) 7 _ _ _ _ _ c.in-Whole.ensures 8 c.if-category-ne8.false refl
+    (not_offered (items c.args.caps.now) 8 _
+    (lent_told (items c.args.caps.now) 8 _ _ _ c.part.ensures c.is_offered.ensures
+    c.if-not-is_offered.true))
 
 pub overflow_add-result : goal.overflow_add-result
 overflow_add-result c =
-    omega (arith, inside (goal.at.overflow_add-result c).In-Whole-2)
+    omega (arith, (stands_whole _ _ _ _ _ c.in-Whole.ensures).3)
 
 pub returns-in-End : goal.returns-in-End
 returns-in-End c =
@@ -75,8 +55,8 @@ returns-in-Short c =
 pub returns-else-not-is_offered : goal.returns-else-not-is_offered
 unfolding followers member
 returns-else-not-is_offered c =
-    left_last false (setting_test (caps-of (goal.at.returns-else-not-is_offered c).In-Whole-2)) c.args.list.now _
-    ∙ left_on false (setting_test (caps-of (goal.at.returns-else-not-is_offered c).In-Whole-2)) 7 _ _ _ _ _ (there (goal.at.returns-else-not-is_offered c).In-Whole-2) 8 c.if-category-ne8.false refl
-    (value_empty (caps-of (goal.at.returns-else-not-is_offered c).In-Whole-2) _ _ (value_length _ _ _ _ _ (there (goal.at.returns-else-not-is_offered c).In-Whole-2)) 8 refl refl c.if-length-ne0.false
-    (lent_told (caps-of (goal.at.returns-else-not-is_offered c).In-Whole-2) 8 _ _ _ c.part.ensures c.is_offered.ensures
-    (not-false _ c.if-not-is_offered.false-raw)))
+    left_last false (setting_test (items c.args.caps.now)) c.args.list.now _
+    ∙ left_on false (setting_test (items c.args.caps.now)) 7 _ _ _ _ _ c.in-Whole.ensures 8 c.if-category-ne8.false refl
+    (value_empty (items c.args.caps.now) _ _ (value_length _ _ _ _ _ c.in-Whole.ensures) 8 refl refl c.if-length-ne0.false
+    (lent_told (items c.args.caps.now) 8 _ _ _ c.part.ensures c.is_offered.ensures
+    c.if-not-is_offered.false))

@@ -3,7 +3,6 @@
 use mathlib.Core.Path.{refl, ◌∙◌}
 use native.Mathlib.Omega.{arith}
 use lib.ListN.{take, drop}
-use borrow.Author.Tests.{not-true, not-false}
 use Rattle.rules.specs.Octets.{member}
 use Rattle.rules.specs.Elements.{items}
 use Rattle.elements_reader.proofs.Stands.{part_length, part_first}
@@ -35,7 +34,7 @@ returns-then-not-is_offered c =
     let v = take c.args.size (drop c.args.first c.args.list.now) in
     rw (not_offered caps 7 v
     (lent_told caps 7 _ _ c.args.list.now c.part.ensures c.is_offered.ensures
-    (not-true _ c.if-not-is_offered.true-raw)))
+    c.if-not-is_offered.true))
 
 pub returns : goal.returns
 returns c =
@@ -46,4 +45,4 @@ returns c =
     ∙ rw (codec_right caps v c.args.size long (omega arith)
     (omega (arith, part_first c.args.list.now c.args.first c.args.size (omega arith)))
     (lent_told caps 7 _ _ c.args.list.now c.part.ensures c.is_offered.ensures
-    (not-false _ c.if-not-is_offered.false-raw)))
+    c.if-not-is_offered.false))

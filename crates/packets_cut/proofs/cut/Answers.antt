@@ -1,14 +1,10 @@
 -- `cut` meets its contract: each refusal by the tests that led to it, and the packet as it was written.
 use Prim.Native.Nat.{ℕ, ◌+◌, ◌≤◌}
 use mathlib.Core.List.{List}
-use mathlib.Core.Path.{◌≡◌, refl, ap, ◌∙◌}
-use mathlib.Core.Bool.{false}
+use mathlib.Core.Path.{refl, ap, ◌∙◌}
 use native.Mathlib.Omega.{arith}
 use lib.ListN.{length}
-use lib.Dec.{eqb}
-use Rattle.rules.specs.Packets.{Message, size_right}
-use Rattle.rules.specs.Host.{cut_refusal, cut_call, Cut}
-use Rattle.rules.specs.declared.Piece.{Piece}
+use Rattle.rules.specs.Packets.{Message}
 use Rattle.rules.proofs.ReadsBack.{HasRoom, count_small}
 use Rattle.octets.proofs.Patches.{part_length}
 use Rattle.packets_cut.proofs.Cutter.{size_small, size_large, size_right_lem, Numbered, numbered, refuses, wrong_size}

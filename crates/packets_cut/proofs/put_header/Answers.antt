@@ -63,8 +63,8 @@ stored s p {octets} e h =
 further_fits : (c : Then-index-ne0) → 1 ≤ length c.args.area.now
 further_fits c = omega (arith, further_size c.args.total c.args.index c.if-index-ne0.true)
 
-single-fits : (c : Then-total-eq1) → 2 ≤ length c.args.area.now
-single-fits c =
+single_fits : (c : Then-total-eq1) → 2 ≤ length c.args.area.now
+single_fits c =
     omega (arith, single_size c.args.total c.args.index c.if-index-ne0.false c.if-total-eq1.true)
 
 start_fits : (c : Else-total-eq1) → 3 ≤ length c.args.area.now
@@ -91,16 +91,16 @@ returns-then-index-ne0 c =
 
 pub bounds-area-0-then-total-eq1 : goal.bounds-area-0-then-total-eq1
 bounds-area-0-then-total-eq1 c =
-    omega (arith, single-fits (goal.at.bounds-area-0-then-total-eq1 c).Then-total-eq1)
+    omega (arith, single_fits (goal.at.bounds-area-0-then-total-eq1 c).Then-total-eq1)
 
 pub bounds-area-1 : goal.bounds-area-1
 bounds-area-1 c =
-    simp length-set (omega (arith, single-fits (goal.at.bounds-area-1 c).Then-total-eq1))
+    simp length-set (omega (arith, single_fits (goal.at.bounds-area-1 c).Then-total-eq1))
 
 pub returns-then-total-eq1 : goal.returns-then-total-eq1
 returns-then-total-eq1 c =
     λ p.
-    stored (goal.at.returns-then-total-eq1 c).Start p (single (message (goal.at.returns-then-total-eq1 c).Start p) c.args.total c.args.index c.if-index-ne0.false c.if-total-eq1.true) (single-fits (goal.at.returns-then-total-eq1 c).Then-total-eq1)
+    stored (goal.at.returns-then-total-eq1 c).Start p (single (message (goal.at.returns-then-total-eq1 c).Start p) c.args.total c.args.index c.if-index-ne0.false c.if-total-eq1.true) (single_fits (goal.at.returns-then-total-eq1 c).Then-total-eq1)
 
 pub bounds-area-0-2 : goal.bounds-area-0-2
 bounds-area-0-2 c =

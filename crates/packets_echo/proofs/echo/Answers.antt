@@ -2,173 +2,115 @@
 -- the last packet gives the message back.
 use Prim.Native.Nat.{ℕ, ◌+◌}
 use mathlib.Core.Path.{◌≡◌, refl, ap, ◌∙◌}
-use mathlib.Core.List.{List}
 use mathlib.Core.Bool.{true, false}
 use native.Mathlib.Omega.{arith}
 use lib.ListN.{length}
-use borrow.Author.Rules.{rules}
 use Rattle.rules.specs.Octets.{front}
 use Rattle.rules.specs.Packets.{Message}
 use Rattle.rules.specs.Cutting.{count_of, packet_at}
-use Rattle.packets_next.specs.Rooms.{RoomRight}
+use Rattle.rules.specs.Host.{packets_call}
 use Rattle.packets_cut.proofs.Cutter.{size_right_lem, packets_right}
-use Rattle.packets_echo.proofs.Turns.{Whole, some_packet, packet_small, Written, written, lent, fresh, Back, Owed}
+use Rattle.packets_echo.proofs.Turns.{message_of, Whole, some_packet, packet_small, Written, written, lent, fresh, Back, Owed}
 use Rattle.packets_echo.proofs.Turns.{turn_done, turn_on}
 use Rattle.packets_echo.proofs.echo.Goals as goal
-use Rattle.packets_echo.proofs.echo.Goals.{After-cut-arg-1, After-cut-piece, After-loop-index, After-packets-total, After-receive-echoed, At-loop-index, Start}
-
-abbrev message_of : ℕ → ℕ → ℕ → List ℕ → Message
-message_of label mtype signal payload =
-    record { header = record { label = label; mtype = mtype; signal = signal }; payload = payload }
+use Rattle.packets_echo.proofs.echo.Goals.{After-cut-piece, After-loop-index, After-packets-total, After-receive-echoed}
 
 -- ---- What was asked, and the count
 
-abbrev message : Start → Message
-message s = message_of s.args.label s.args.mtype s.args.signal s.args.payload.now
-
-whole-at : (s : Start) → Whole s.args.size (message s)
-whole-at s =
+whole_at : (c : After-packets-total) → Whole c.args.size (message_of c.args.label c.args.mtype c.args.signal c.args.payload.now)
+whole_at c =
     record {
-      right = size_right_lem s.args.size (omega arith) (omega arith);
+      right = size_right_lem c.args.size (omega arith) (omega arith);
       most = omega arith;
       room = omega arith;
       short = omega arith;
     }
 
-room-long : (s : Start) → length s.args.room.now ≡ 520
-room-long s = let r : RoomRight s.args.room.now = search rules in r.long
-
-abbrev start : After-packets-total → Start
-start c = c.before.before.before.before.before.before
-
-total-at : (c : After-packets-total) → c.packets-total.result ≡ count_of (start c).args.size (message (start c))
+total_of : {size : ℕ} (m : Message) (n : ℕ) → Whole size m → n ≡ packets_call size (length m.payload) → n ≡ count_of size m
 unfolding count_of
-total-at c =
-    let w = whole-at (start c) in
-    c.packets-total.ensures ∙ packets_right (start c).args.size (length (start c).args.payload.now) w.right w.short
+total_of m n w e = e ∙ packets_right _ (length m.payload) w.right w.short
 
 -- ---- A turn
 
-abbrev turn-of : After-cut-piece → At-loop-index
-turn-of c = c.before.before.before
+abbrev message_at : After-cut-piece → Message
+message_at c = message_of c.args.label c.args.mtype c.args.signal c.args.payload.now
 
-abbrev asked : After-cut-piece → Start
-asked c = start (turn-of c).before
+written_at : (c : After-cut-piece) → Whole c.args.size (message_at c)
+    → Written c.cut-piece.result (packet_at c.args.size (message_at c) c.loop-index.index) c.loop-index.area c.cut-piece.new.area
+written_at c w =
+    written w c.loop-index.index c.cut-piece.result c.loop-index.area c.cut-piece.new.area c.loop-index.invariant.owed.below
+    (omega arith) c.cut-piece.ensures
 
-abbrev packet-of : After-cut-piece → List ℕ
-packet-of c = packet_at (asked c).args.size (message (asked c)) (turn-of c).loop.index
+-- the part of the area that is lent is the packet
+lent_at : (c : After-receive-echoed) (m : Message)
+    → Written c.cut-piece.result (packet_at c.args.size m c.loop-index.index) c.loop-index.area c.cut-piece.new.area
+    → c.part.result.now ≡ packet_at c.args.size m c.loop-index.index
+lent_at c m w =
+    lent c.cut-piece.result _ c.loop-index.area c.cut-piece.new.area c.part.result.now w c.part.ensures
 
-written_at : (c : After-cut-piece)
-    → Written c.cut-piece.result (packet-of c) (turn-of c).loop.area c.cut-piece.new.label.1.1.1.1.1.0
-written_at c =
-    written (whole-at (asked c)) (turn-of c).loop.index c.cut-piece.result (turn-of c).loop.area
-    c.cut-piece.new.label.1.1.1.1.1.0 (turn-of c).loop.invariant.0.below (omega arith) c.cut-piece.ensures
+back_at : (c : After-receive-echoed) {m : Message} → Whole c.args.size m → Owed c.args.size m c.loop-index.index c.loop-index.room
+    → c.part.result.now ≡ packet_at c.args.size m c.loop-index.index → c.receive-echoed.result.done ≡ true
+    → Back m c.receive-echoed.result c.loop-index.message c.receive-echoed.new.message
+back_at c w o p done =
+    turn_done w o c.part.result.now p c.receive-echoed.result c.receive-echoed.new.room c.loop-index.message
+    c.receive-echoed.new.message c.receive-echoed.ensures.echoed c.receive-echoed.ensures.room
+    c.receive-echoed.ensures.message done
 
-abbrev cut_of : After-receive-echoed → After-cut-piece
-cut_of c = c.before.before.before.before.before.before.before
-
-packet-at : (c : After-receive-echoed) → c.part.result.now ≡ packet-of (cut_of c)
-packet-at c =
-    let cuts = cut_of c in
-    lent cuts.cut.result (packet-of cuts) (turn-of cuts).loop.area cuts.cut.last.1.1.1.1.1.1.0
-    c.part.result.now (written_at cuts) c.part.ensures
-
-back_at : (c : After-receive-echoed) → c.receive-echoed.result.done ≡ true
-    → Back (message (asked (cut_of c))) c.receive-echoed.result (turn-of (cut_of c)).loop.message c.receive-echoed.new.size.1.1.0
-back_at c done =
-    let cuts = cut_of c in
-    turn_done (whole-at (asked cuts)) (turn-of cuts).loop.inv.0 c.part.result.now (packet-at c)
-    c.receive-echoed.result c.receive-echoed.new.room (turn-of cuts).loop.message c.receive-echoed.new.size.1.1.0
-    c.receive-echoed.ensures.echoed c.receive-echoed.ensures.room.0 c.receive-echoed.ensures.room.1 done
-
-on-at : (c : After-receive-echoed) → c.receive-echoed.result.done ≡ false
-    → Owed (asked (cut_of c)).args.size (message (asked (cut_of c))) ((turn-of (cut_of c)).loop.index + 1) c.receive-echoed.new.room
-    × (c.receive-echoed.new.size.1.1.0 ≡ (turn-of (cut_of c)).loop.message)
-on-at c going =
-    let cuts = cut_of c in
-    turn_on (whole-at (asked cuts)) (turn-of cuts).loop.inv.0 c.part.result.now (packet-at c)
-    c.receive-echoed.result c.receive-echoed.new.room (turn-of cuts).loop.message c.receive-echoed.new.size.1.1.0
-    c.receive-echoed.ensures.echoed c.receive-echoed.ensures.room.0 c.receive-echoed.ensures.room.1 going
+on_at : (c : After-receive-echoed) {m : Message} → Whole c.args.size m → Owed c.args.size m c.loop-index.index c.loop-index.room
+    → c.part.result.now ≡ packet_at c.args.size m c.loop-index.index → c.receive-echoed.result.done ≡ false
+    → Owed c.args.size m (c.loop-index.index + 1) c.receive-echoed.new.room
+    × (c.receive-echoed.new.message ≡ c.loop-index.message)
+on_at c w o p going =
+    turn_on w o c.part.result.now p c.receive-echoed.result c.receive-echoed.new.room c.loop-index.message
+    c.receive-echoed.new.message c.receive-echoed.ensures.echoed c.receive-echoed.ensures.room
+    c.receive-echoed.ensures.message going
 
 -- the loop is never left: the last packet is owed until its turn
-not_left : After-loop-index → ⊥
-not_left c = omega (arith, c.loop-test.false, c.before.loop.invariant.0.below, total-at c.before.before)
+not_left : (c : After-loop-index) (m : Message) → c.packets-total.result ≡ count_of c.args.size m
+    → Owed c.args.size m c.loop-index.index c.loop-index.room → ⊥
+not_left c m e o = omega (arith, c.loop-index-test.false, o.below, e)
 
--- ---- The needs
+-- ---- The goals
 
 pub loop-index-init : goal.loop-index-init
 loop-index-init c =
-    let s = start (goal.at.loop-index-init c).After-packets-total in
-    (record { below = some_packet (whole-at s); right = search rules; reached = fresh }, refl, refl)
+    let w = whole_at (goal.at.loop-index-init c).After-packets-total in
+    record {
+      owed = record { below = some_packet w; right = c.requires.room_right; reached = fresh };
+      area_long = refl;
+      untouched = refl;
+    }
 
 pub part-requires : goal.part-requires
 part-requires c =
-    omega (
-      arith,
-      (written_at (goal.at.part-requires c).After-cut-piece).size,
-      packet_small (whole-at (asked (goal.at.part-requires c).After-cut-arg-1)) (turn-of (goal.at.part-requires c).After-cut-arg-1).loop.index,
-      c.cut-piece.auto.label.1.1.1.1.1.0,
-      (turn-of (goal.at.part-requires c).After-cut-arg-1).loop.invariant.1,
-      (asked (goal.at.part-requires c).After-cut-arg-1).requires,
-    )
-
-pub receive-echoed-requires : goal.receive-echoed-requires
-receive-echoed-requires c =
-    let both = let inv = (turn-of (goal.at.receive-echoed-requires c).After-cut-arg-1).loop.invariant in
-    (inv.0.right, omega (arith, ap length inv.2, (asked (goal.at.receive-echoed-requires c).After-cut-arg-1).requires)) in
-    record { room_right = both.0; message_fits = both.1 }
-
-pub shape_of-room-then-done : goal.shape_of-room-then-done
-shape_of-room-then-done c =
-    let cuts = cut_of (goal.at.shape_of-room-then-done c).After-receive-echoed in
-    omega (arith, c.receive-echoed.auto.room, (turn-of cuts).loop.inv.0.right.long, room-long (asked cuts))
-
-pub shape_of-area-then-done : goal.shape_of-area-then-done
-shape_of-area-then-done c =
-    let cuts = cut_of (goal.at.shape_of-area-then-done c).After-receive-echoed in
-    omega (arith, cuts.cut.kept.1.1.1.1.1.1.0, (turn-of cuts).loop.inv.1)
-
-pub shape_of-message-then-done : goal.shape_of-message-then-done
-shape_of-message-then-done c =
-    omega (arith, c.receive-echoed.auto.size.1.1.0, ap length (turn-of (cut_of (goal.at.shape_of-message-then-done c).After-receive-echoed)).loop.inv.2)
+    let w = whole_at (goal.at.part-requires c).After-packets-total in
+    omega (arith, (written_at (goal.at.part-requires c).After-cut-piece w).size, packet_small w c.loop-index.index)
 
 pub returns-then-done : goal.returns-then-done
 returns-then-done c =
-    let both = let cuts = cut_of (goal.at.returns-then-done c).After-receive-echoed in
-    let b = back_at (goal.at.returns-then-done c).After-receive-echoed c.if-done.true in
-    (b.echoed, b.written ∙ ap (front (asked cuts).args.payload.now) (turn-of cuts).loop.inv.2) in
-    record { echoed = both.0; message = both.1 }
-
-pub overflow_add-index : goal.overflow_add-index
-overflow_add-index c =
-    let cuts = cut_of (goal.at.overflow_add-index c).After-receive-echoed in
-    omega (arith, cuts.before.before.loop-test.taken, (turn-of cuts).before.packets.ok)
-
-pub loop-index-smaller : goal.loop-index-smaller
-loop-index-smaller c =
-    let cuts = cut_of (goal.at.loop-index-smaller c).After-receive-echoed in
-    omega (arith, cuts.before.before.loop-test.taken)
+    let w = whole_at (goal.at.returns-then-done c).After-packets-total in
+    let at = (goal.at.returns-then-done c).After-receive-echoed in
+    let packet = lent_at at _ (written_at (goal.at.returns-then-done c).After-cut-piece w) in
+    let b = back_at at w c.loop-index.invariant.owed packet c.if-done.true in
+    record {
+      echoed = b.echoed;
+      message = b.written ∙ ap (front c.args.payload.now) c.loop-index.invariant.untouched;
+    }
 
 pub loop-index-preserved : goal.loop-index-preserved
 loop-index-preserved c =
-    let cuts = cut_of (goal.at.loop-index-preserved c).After-receive-echoed in
-    let inv = (turn-of cuts).loop.inv in
-    let on = on-at (goal.at.loop-index-preserved c).After-receive-echoed c.if-done.false in
-    (on.0, cuts.cut.kept.1.1.1.1.1.1.0 ∙ inv.1, on.1 ∙ inv.2)
-
-pub shape_of-room : goal.shape_of-room
-shape_of-room c =
-    absurd (not_left (goal.at.shape_of-room c).After-loop-index)
-
-pub shape_of-area : goal.shape_of-area
-shape_of-area c =
-    absurd (not_left (goal.at.shape_of-area c).After-loop-index)
-
-pub shape_of-message : goal.shape_of-message
-shape_of-message c =
-    absurd (not_left (goal.at.shape_of-message c).After-loop-index)
+    let w = whole_at (goal.at.loop-index-preserved c).After-packets-total in
+    let at = (goal.at.loop-index-preserved c).After-receive-echoed in
+    let packet = lent_at at _ (written_at (goal.at.loop-index-preserved c).After-cut-piece w) in
+    let on = on_at at w c.loop-index.invariant.owed packet c.if-done.false in
+    record {
+      owed = on.0;
+      area_long = c.cut-piece.auto.area ∙ c.loop-index.invariant.area_long;
+      untouched = on.1 ∙ c.loop-index.invariant.untouched;
+    }
 
 pub returns : goal.returns
 returns c =
-    let both = absurd (not_left (goal.at.returns c).After-loop-index) in
-    record { echoed = both.0; message = both.1 }
+    let w = whole_at (goal.at.returns c).After-packets-total in
+    let total = total_of _ c.packets-total.result w c.packets-total.ensures in
+    absurd (not_left (goal.at.returns c).After-loop-index _ total c.loop-index.invariant.owed)

@@ -28,16 +28,21 @@ counted y t q n f l = ap₂ ◌+◌ l (ap length f) ∙ sym (length-append y q)
 pub put-requires : goal.put-requires
 put-requires c =
     let payload = lent c.args.room.now _ _ c.gathered-before.ensures c.part.ensures in
-    omega (arith, ap length payload, (c.requires.room_whole, (c.requires.packet_begun, (c.requires.gathered_fits, c.requires.message_fits))))
+    omega (arith, ap length payload)
 
 pub put-requires-2 : goal.put-requires-2
 put-requires-2 c =
     let long = payload_length c.args.room.now c.requires.room_whole c.requires.gathered_fits in
-    omega (arith, c.put.auto.dst, (c.requires.room_whole, (c.requires.packet_begun, (c.requires.gathered_fits, c.requires.message_fits))), length_behind 1 c.args.packet.now, length-drop 1 c.args.packet.now)
+    omega (arith, length_behind 1 c.args.packet.now, length-drop 1 c.args.packet.now)
 
 pub returns : goal.returns
 returns c =
     let payload = (gathering_at c.args.room.now).message.payload in
-    let n = c.gathered-before.ensures ∙ sym (payload_length c.args.room.now c.requires.room_whole c.requires.gathered_fits) in record { written = written _ payload _ (drop 1 c.args.packet.now) c.args.message.now _ _ _
-          (lent c.args.room.now _ _ c.gathered-before.ensures c.part.ensures) (behind_whole 1 c.args.packet.now) n c.put.ensures
-          c.put-2.ensures; size = counted payload _ (drop 1 c.args.packet.now) _ (behind_whole 1 c.args.packet.now) n }
+    let n = c.gathered-before.ensures ∙ sym (payload_length c.args.room.now c.requires.room_whole c.requires.gathered_fits) in
+    record {
+      written =
+          written _ payload _ (drop 1 c.args.packet.now) c.args.message.now _ _ _
+          (lent c.args.room.now _ _ c.gathered-before.ensures c.part.ensures) (behind_whole 1 c.args.packet.now) n
+          c.put.ensures c.put-2.ensures;
+      size = counted payload _ (drop 1 c.args.packet.now) _ (behind_whole 1 c.args.packet.now) n;
+    }

@@ -3,7 +3,6 @@ use Prim.Native.Nat.{ℕ, ◌/◌, ◌%◌}
 use mathlib.Core.Path.{◌≡◌, refl, sym, ap, ◌∙◌}
 use mathlib.Core.List.{List, [], ◌∷◌}
 use mathlib.Core.Bool.{Bool, false, ◌&&◌, ◌||◌}
-use borrow.Author.Rules.{rules}
 use borrow.Author.Tests.{eq-eqb, ne_eqb}
 use lib.Dec.{eqb}
 use Rattle.rules.specs.Octets.{some_of}
@@ -27,10 +26,6 @@ source : (kind : ℕ) (l v : List ℕ) {b : Bool} → kind / 8 % 2 ≡ 0 → b �
 unfolding is_source
 source kind l v h e =
     e ∙ offered_has (items l) v ∙ sym (ap (λ (t : Bool). t && has 8 (items l)) (eq-eqb (kind / 8 % 2) 0 h))
-
--- ?? slice-aggregate-offers : slice-aggregate-offers
-slice-aggregate-offers : tie.Need-slice-aggregate-offers
-slice-aggregate-offers c = search rules
 
 pub returns-then-kind-ne0 : goal.returns-then-kind-ne0
 returns-then-kind-ne0 c =

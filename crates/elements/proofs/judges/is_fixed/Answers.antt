@@ -2,7 +2,7 @@
 use Prim.Native.Nat.{ℕ}
 use mathlib.Core.Path.{◌≡◌, refl, ap}
 use mathlib.Core.Bool.{true, false}
-use borrow.Author.Tests.{not-true, not-false}
+use native.Mathlib.Omega.{arith}
 use Rattle.rules.specs.Elements.{Category, category_of, transport, reporting, recovery, protection, compression, multiplexing}
 use Rattle.rules.specs.Elements.{codec, delaying, strange, is_strange, fixed}
 use Rattle.rules.specs.declared.Rule.TheVariants.{Reconfiguring}
@@ -28,19 +28,19 @@ others c known f g = go (category_of c) refl
 pub returns-then-not-anew : goal.returns-then-not-anew
 unfolding fixed
 returns-then-not-anew c =
-    rw (not-true c.args.anew c.if-not-anew.true-raw)
+    rw c.if-not-anew.true
 
 pub returns-in-4 : goal.returns-in-4
 unfolding fixed category_of
 returns-in-4 c =
-    rw (not-false c.args.anew c.if-not-anew.false-raw, c.in-4.is)
+    rw (c.if-not-anew.false, c.in-4.is)
 
 pub returns-in-7 : goal.returns-in-7
 unfolding fixed category_of
 returns-in-7 c =
-    rw (not-false c.args.anew c.if-not-anew.false-raw, c.in-7.is)
+    rw (c.if-not-anew.false, c.in-7.is)
 
 pub returns-in_default : goal.returns-in_default
 returns-in_default c =
-    rw (not-false c.args.anew c.if-not-anew.false-raw)
-    (others c.args.category c.requires c.in_default.in_default-own.rest.0.1 c.in_default.in_default-own.rest.1)
+    rw c.if-not-anew.false
+    (others c.args.category c.requires (omega arith) (omega arith))

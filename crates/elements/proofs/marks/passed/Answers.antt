@@ -1,4 +1,6 @@
 -- `passed` meets its contract: each arm sets the one mark that the category's number stands for, and the last arm sets none.
+use Prim.Native.Nat.{◌<◌}
+use native.Mathlib.Omega.{arith}
 use Rattle.elements.specs.Marks.{marked}
 use Rattle.elements.proofs.Passing.{pass_key, pass_other}
 use Rattle.elements.proofs.marks.passed.Goals as goal
@@ -45,4 +47,5 @@ returns-in-8 c =
 
 pub returns-in_default : goal.returns-in_default
 returns-in_default c =
-    pass_other c.args.category c.args.first c.args.marks c.in_default.in_default-own.rest
+    let other : 0 < c.args.category → 8 < c.args.category = λ h. omega arith in
+    pass_other c.args.category c.args.first c.args.marks other

@@ -24,7 +24,7 @@ returns-in-Short t c =
 -- what `part` requires
 pub part-requires : goal.part-requires
 part-requires t c =
-    (stands_whole c.args.list.now c.args.at _ _ _ (sym c.in-Whole.is ∙ c.element_at-element.ensures)).3
+    (stands_whole _ _ _ _ _ c.in-Whole.ensures).3
 
 -- what `item_code` requires
 pub item_code-code-requires : goal.item_code-code-requires
@@ -35,33 +35,24 @@ item_code-code-requires t c =
 pub returns-then-code-ne0 : goal.returns-then-code-ne0
 returns-then-code-ne0 t c =
     walk_fault c.args.anew (items c.args.caps.now) c.args.list.now c.args.at c.args.marks _ _ _
-    (sym c.in-Whole.is ∙ c.element_at-element.ensures) _ c.part.ensures
+    c.in-Whole.ensures _ c.part.ensures
     c.item_code-code.result c.item_code-code.ensures c.if-code-ne0.true
 
 -- the next place fits
 pub overflow_add-first : goal.overflow_add-first
 overflow_add-first t c =
-    omega (
-      arith,
-      (stands_whole c.args.list.now c.args.at _ _ _
-          (sym c.in-Whole.is ∙ c.element_at-element.ensures)).3,
-    )
+    omega (arith, (stands_whole _ _ _ _ _ c.in-Whole.ensures).3)
 
 -- the place of the value fits
 pub overflow_cast-first : goal.overflow_cast-first
 overflow_cast-first t c =
-    omega (
-      arith,
-      c.requires.1,
-      (stands_whole c.args.list.now c.args.at _ _ _ (sym c.in-Whole.is ∙ c.element_at-element.ensures)).3,
-    )
+    omega (arith, c.requires.1, (stands_whole _ _ _ _ _ c.in-Whole.ensures).3)
 
 -- the measure falls
 pub walk-requires : goal.walk-requires
 walk-requires t c =
-    let there = stands_whole c.args.list.now c.args.at _ _ _
-    (sym c.in-Whole.is ∙ c.element_at-element.ensures) in
-    (omega (arith, c.requires.0, there.2, there.3), c.requires)
+    let there = stands_whole _ _ _ _ _ c.in-Whole.ensures in
+    (omega (arith, there.2, there.3), c.requires)
 
 -- the rest decides
 pub returns : goal.returns
@@ -69,5 +60,5 @@ returns t c =
     c.walk.ensures
     ∙ ap (walk_of (command_rule c.args.anew) (items c.args.caps.now) c.args.list.now _) c.passed.ensures
     ∙ walk_on c.args.anew (items c.args.caps.now) c.args.list.now c.args.at c.args.marks _ _ _
-    (sym c.in-Whole.is ∙ c.element_at-element.ensures) _ c.part.ensures
+    c.in-Whole.ensures _ c.part.ensures
     c.item_code-code.result c.item_code-code.ensures c.if-code-ne0.false

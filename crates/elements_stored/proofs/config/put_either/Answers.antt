@@ -7,7 +7,6 @@ use lib.ListN.{length}
 use Rattle.elements_stored.specs.Stores.{marked_pick, either_pick}
 use Rattle.elements_stored.proofs.Writes.{wrote_as}
 use Rattle.elements_stored.proofs.config.put_either.Goals as goal
-use Rattle.elements_stored.proofs.config.put_either.Goals.{Else-fresh-eq0, Then-fresh-eq0}
 
 old_one : (c : ℕ) (new : List ℕ) (fresh : ℕ) (old : List ℕ) (left : ℕ) → fresh ≡ 0
     → either_pick c new fresh old left ≡ marked_pick c old left
@@ -22,39 +21,25 @@ new_one c new fresh old left h = rw (ne_eqb fresh 0 h)
 room_as : (to : ℕ) (s t a : List ℕ) → s ≡ t → to + length s ≤ length a → to + length t ≤ length a
 room_as to s t a e h = rw e at h
 
--- what is written, by the test
-abbrev Old : Then-fresh-eq0 → Type 0
-Old c =
-    either_pick c.args.category c.args.new.now c.args.fresh c.args.old.now c.args.left
-    ≡ marked_pick c.args.category c.args.old.now c.args.left
-
-is-old : (c : Then-fresh-eq0) → Old c
-is-old c =
-    old_one c.args.category c.args.new.now c.args.fresh c.args.old.now c.args.left c.if-fresh-eq0.true
-
-abbrev New : Else-fresh-eq0 → Type 0
-New c =
-    either_pick c.args.category c.args.new.now c.args.fresh c.args.old.now c.args.left
-    ≡ marked_pick c.args.category c.args.new.now c.args.fresh
-
-is_new : (c : Else-fresh-eq0) → New c
-is_new c =
-    new_one c.args.category c.args.new.now c.args.fresh c.args.old.now c.args.left c.if-fresh-eq0.false
-
 pub put_pick-requires : goal.put_pick-requires
 put_pick-requires c =
-    (c.requires.1, room_as c.args.to _ _ c.args.area.now (is-old (goal.at.put_pick-requires c).Then-fresh-eq0) c.requires.2)
+    let e = old_one c.args.category c.args.new.now c.args.fresh c.args.old.now c.args.left c.if-fresh-eq0.true in
+    (c.requires.1, room_as c.args.to _ _ c.args.area.now e c.requires.2)
 
 pub put_pick-requires-else-fresh-eq0 : goal.put_pick-requires-else-fresh-eq0
 put_pick-requires-else-fresh-eq0 c =
-    (c.requires.0, room_as c.args.to _ _ c.args.area.now (is_new (goal.at.put_pick-requires-else-fresh-eq0 c).Else-fresh-eq0) c.requires.2)
+    let e = new_one c.args.category c.args.new.now c.args.fresh c.args.old.now c.args.left c.if-fresh-eq0.false in
+    (c.requires.0, room_as c.args.to _ _ c.args.area.now e c.requires.2)
 
 pub returns-then-fresh-eq0 : goal.returns-then-fresh-eq0
 returns-then-fresh-eq0 c =
-    let both = wrote_as c.args.to _ _ c.args.area.now (is-old (goal.at.returns-then-fresh-eq0 c).Then-fresh-eq0) (c.put_pick.ensures.area, c.put_pick.ensures.end) in
+    let e = old_one c.args.category c.args.new.now c.args.fresh c.args.old.now c.args.left c.if-fresh-eq0.true in
+    let both = wrote_as c.args.to _ _ c.args.area.now e (c.put_pick.ensures.area, c.put_pick.ensures.end) in
     record { area = both.0; end = both.1 }
 
 pub returns-else-fresh-eq0 : goal.returns-else-fresh-eq0
 returns-else-fresh-eq0 c =
-    let both = wrote_as c.args.to _ _ c.args.area.now (is_new (goal.at.returns-else-fresh-eq0 c).Else-fresh-eq0) (c.put_pick-else-fresh-eq0.ensures.area, c.put_pick-else-fresh-eq0.ensures.end) in
+    let e = new_one c.args.category c.args.new.now c.args.fresh c.args.old.now c.args.left c.if-fresh-eq0.false in
+    let said = c.put_pick-else-fresh-eq0.ensures in
+    let both = wrote_as c.args.to _ _ c.args.area.now e (said.area, said.end) in
     record { area = both.0; end = both.1 }

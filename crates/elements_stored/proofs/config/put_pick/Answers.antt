@@ -117,21 +117,21 @@ module _ (c : ℕ) (l : List ℕ) (place to : ℕ) (a : List ℕ) (h : Rooms l p
       )
 
 -- the same at the places of the code
-abbrev Rooms-at : Else-place-eq0 → Type 0
-Rooms-at c = Rooms c.args.list.now c.args.place c.args.to c.args.area.now
+abbrev RoomsAt : Else-place-eq0 → Type 0
+RoomsAt c = Rooms c.args.list.now c.args.place c.args.to c.args.area.now
 
-rooms-at : (c : Else-place-eq0) → Rooms-at c
-rooms-at c =
+rooms_at : (c : Else-place-eq0) → RoomsAt c
+rooms_at c =
     rooms c.args.category c.args.list.now c.args.place c.args.to c.args.area.now c.if-place-eq0.false c.requires
 
-abbrev Written-at : After-put → Type 0
-Written-at c =
+abbrev WrittenAt : After-put → Type 0
+WrittenAt c =
     c.put.new.dst ≡ patch c.args.to (c.args.category ∷ size_at c.args.list.now c.args.place ∷ value_at c.args.list.now c.args.place) c.args.area.now
 
-written_at : (c : After-put) → Written-at c
+written_at : (c : After-put) → WrittenAt c
 written_at c =
-    first c.args.category c.args.list.now c.args.place c.args.to c.args.area.now (rooms-at c.before.before.before.before)
-    c.part.result.now c.part.ensures c.put.ensures
+    first c.args.category c.args.list.now c.args.place c.args.to c.args.area.now
+    (rooms c.args.category c.args.list.now c.args.place c.args.to c.args.area.now c.if-place-eq0.false c.requires) c.part.result.now c.part.ensures c.put.ensures
 
 written_length : (c : After-put) → length c.put.new.dst ≡ length c.args.area.now
 written_length c = c.put.auto.dst ∙ simp length-set
@@ -143,32 +143,39 @@ returns-then-place-eq0 c =
 
 pub bounds-list-before : goal.bounds-list-before
 bounds-list-before c =
-    let h = rooms-at (goal.at.bounds-list-before c).Else-place-eq0 in omega arith
+    let h = rooms_at (goal.at.bounds-list-before c).Else-place-eq0 in
+    omega arith
 
 pub overflow_cast-size : goal.overflow_cast-size
 overflow_cast-size c =
-    let h = rooms-at (goal.at.overflow_cast-size c).Else-place-eq0 in omega arith
+    let h = rooms_at (goal.at.overflow_cast-size c).Else-place-eq0 in
+    omega arith
 
 pub bounds-area-to : goal.bounds-area-to
 bounds-area-to c =
-    let h = rooms-at (goal.at.bounds-area-to c).Else-place-eq0 in omega arith
+    let h = rooms_at (goal.at.bounds-area-to c).Else-place-eq0 in
+    omega arith
 
 pub overflow_add-size : goal.overflow_add-size
 overflow_add-size c =
-    let h = rooms-at (goal.at.overflow_add-size c).Else-place-eq0 in omega arith
+    let h = rooms_at (goal.at.overflow_add-size c).Else-place-eq0 in
+    omega arith
 
 pub part-requires : goal.part-requires
 part-requires c =
-    let h = rooms-at (goal.at.part-requires c).Else-place-eq0 in omega arith
+    let h = rooms_at (goal.at.part-requires c).Else-place-eq0 in
+    omega arith
 
 pub put-requires : goal.put-requires
 put-requires c =
-    part_fits c.args.category c.args.list.now c.args.place c.args.to c.args.area.now (rooms-at (goal.at.put-requires c).Else-place-eq0)
+    let h = rooms_at (goal.at.put-requires c).Else-place-eq0 in
+    part_fits c.args.category c.args.list.now c.args.place c.args.to c.args.area.now h
     c.part.result.now c.part.ensures
 
 pub overflow_add-end-2 : goal.overflow_add-end-2
 overflow_add-end-2 c =
-    let h = rooms-at (goal.at.overflow_add-end-2 c).Else-place-eq0 in omega arith
+    let h = rooms_at (goal.at.overflow_add-end-2 c).Else-place-eq0 in
+    omega arith
 
 pub shape_of-area-then-category-ne7 : goal.shape_of-area-then-category-ne7
 shape_of-area-then-category-ne7 c =
@@ -176,7 +183,8 @@ shape_of-area-then-category-ne7 c =
 
 pub returns-then-category-ne7 : goal.returns-then-category-ne7
 returns-then-category-ne7 c =
-    let both = plain c.args.category c.args.list.now c.args.place c.args.to c.args.area.now (rooms-at (goal.at.returns-then-category-ne7 c).Else-place-eq0)
+    let h = rooms_at (goal.at.returns-then-category-ne7 c).Else-place-eq0 in
+    let both = plain c.args.category c.args.list.now c.args.place c.args.to c.args.area.now h
     (other_kept c.args.category _ c.if-category-ne7.true) (written_at (goal.at.returns-then-category-ne7 c).After-put) in
     record { area = both.0; end = both.1 }
 
@@ -186,14 +194,15 @@ shape_of-area-then-size-eq0 c =
 
 pub returns-then-size-eq0 : goal.returns-then-size-eq0
 returns-then-size-eq0 c =
-    let both = plain c.args.category c.args.list.now c.args.place c.args.to c.args.area.now (rooms-at (goal.at.returns-then-size-eq0 c).Else-place-eq0)
+    let h = rooms_at (goal.at.returns-then-size-eq0 c).Else-place-eq0 in
+    let both = plain c.args.category c.args.list.now c.args.place c.args.to c.args.area.now h
     (none_kept c.args.category _ (drop c.args.place c.args.list.now) c.if-category-ne7.false c.if-size-eq0.true)
     (written_at (goal.at.returns-then-size-eq0 c).After-put) in
     record { area = both.0; end = both.1 }
 
 pub bounds-list-place : goal.bounds-list-place
 bounds-list-place c =
-    let h = rooms-at (goal.at.bounds-list-place c).Else-place-eq0 in
+    let h = rooms_at (goal.at.bounds-list-place c).Else-place-eq0 in
     omega (arith, c.if-size-eq0.false)
 
 pub overflow_mul-area : goal.overflow_mul-area
@@ -202,7 +211,7 @@ overflow_mul-area c =
 
 pub bounds-area-to-2 : goal.bounds-area-to-2
 bounds-area-to-2 c =
-    let h = rooms-at (goal.at.bounds-area-to-2 c).Else-place-eq0 in
+    let h = rooms_at (goal.at.bounds-area-to-2 c).Else-place-eq0 in
     omega (arith, written_length (goal.at.bounds-area-to-2 c).After-put, c.if-size-eq0.false)
 
 pub shape_of-area : goal.shape_of-area
@@ -211,6 +220,7 @@ shape_of-area c =
 
 pub returns : goal.returns
 returns c =
-    let both = cleared c.args.category c.args.list.now c.args.place c.args.to c.args.area.now (rooms-at (goal.at.returns c).Else-place-eq0)
+    let h = rooms_at (goal.at.returns c).Else-place-eq0 in
+    let both = cleared c.args.category c.args.list.now c.args.place c.args.to c.args.area.now h
     c.if-category-ne7.false c.if-size-eq0.false (written_at (goal.at.returns c).After-put) in
     record { area = both.0; end = both.1 }

@@ -9,7 +9,6 @@ use Rattle.octets.specs.Patch.{patch}
 use Rattle.elements_stored.specs.Stores.{either_pick, marked_store}
 use Rattle.elements_stored.proofs.Writes.{Wrote, wrote_further}
 use Rattle.elements_stored.proofs.config.store.Goals as goal
-use Rattle.elements_stored.proofs.config.store.Goals.{Start}
 
 module _ (new : List ℕ) (m : Marks) (old : List ℕ) (k : Marks) where
   abbrev one : List ℕ
@@ -37,49 +36,48 @@ module _ (new : List ℕ) (m : Marks) (old : List ℕ) (k : Marks) where
   unfolding marked_store
   all to a room w₁ w₂ w₄ w₇ w₈ =
       let n = sizes in
-      let to-two = wrote_further to one two a (omega arith) w₁ w₂ in
-      let to-four = wrote_further to (one ++ two) four a (simp length-append (omega arith)) to-two w₄ in
-      let to-seven = wrote_further to ((one ++ two) ++ four) seven a (simp length-append (omega arith)) to-four w₇ in
-      let to-eight = wrote_further to (((one ++ two) ++ four) ++ seven) eight a (simp length-append (omega arith)) to-seven w₈ in
-      let whole : Wrote to (marked_store new m old k) a _ _ = simp append_assoc at to-eight in
+      let to_two = wrote_further to one two a (omega arith) w₁ w₂ in
+      let to_four = wrote_further to (one ++ two) four a (simp length-append (omega arith)) to_two w₄ in
+      let to_seven = wrote_further to ((one ++ two) ++ four) seven a (simp length-append (omega arith)) to_four w₇ in
+      let to_eight = wrote_further to (((one ++ two) ++ four) ++ seven) eight a (simp length-append (omega arith)) to_seven w₈ in
+      let whole : Wrote to (marked_store new m old k) a _ _ = simp append_assoc at to_eight in
       (whole.0, omega (arith, whole.1))
 
--- the room that is asked for, as a sum
-abbrev Room : Start → Type 0
-Room c =
-    c.args.to + (length (one c.args.new.now c.args.fresh c.args.old.now c.args.left) + (length (two c.args.new.now c.args.fresh c.args.old.now c.args.left) + (length (four c.args.new.now c.args.fresh c.args.old.now c.args.left)
-    + (length (seven c.args.new.now c.args.fresh c.args.old.now c.args.left) + length (eight c.args.new.now c.args.fresh c.args.old.now c.args.left))))) ≤ length c.args.area.now
-
-room : (c : Start) → Room c
-room c = omega (arith, c.requires.2, sizes c.args.new.now c.args.fresh c.args.old.now c.args.left)
+  -- the room that is asked for, as a sum
+  room : (to : ℕ) (a : List ℕ) → to + length (marked_store new m old k) ≤ length a
+      → to + (length one + (length two + (length four + (length seven + length eight)))) ≤ length a
+  room to a h = omega (arith, h, sizes)
 
 pub put_either-one-requires : goal.put_either-one-requires
 put_either-one-requires c =
-    (c.requires.0.transport, c.requires.1.transport, omega (arith, room (goal.at.put_either-one-requires c).Start))
+    let h = room c.args.new.now c.args.fresh c.args.old.now c.args.left c.args.to c.args.area.now c.requires.2 in
+    (c.requires.0.transport, c.requires.1.transport, omega arith)
 
 pub put_either-two-requires : goal.put_either-two-requires
 put_either-two-requires c =
-    (c.requires.0.reporting, c.requires.1.reporting, omega (arith, room (goal.at.put_either-two-requires c).Start, c.put_either-one))
+    let h = room c.args.new.now c.args.fresh c.args.old.now c.args.left c.args.to c.args.area.now c.requires.2 in
+    (c.requires.0.reporting, c.requires.1.reporting, omega arith)
 
 pub put_either-four-requires : goal.put_either-four-requires
 put_either-four-requires c =
-    (c.requires.0.protection, c.requires.1.protection, omega (arith, room (goal.at.put_either-four-requires c).Start, c.put_either-one, c.put_either-two))
+    let h = room c.args.new.now c.args.fresh c.args.old.now c.args.left c.args.to c.args.area.now c.requires.2 in
+    (c.requires.0.protection, c.requires.1.protection, omega arith)
 
 pub put_either-seven-requires : goal.put_either-seven-requires
 put_either-seven-requires c =
-    (c.requires.0.codec, c.requires.1.codec, omega (arith, room (goal.at.put_either-seven-requires c).Start, c.put_either-one, c.put_either-two, c.put_either-four))
+    let h = room c.args.new.now c.args.fresh c.args.old.now c.args.left c.args.to c.args.area.now c.requires.2 in
+    (c.requires.0.codec, c.requires.1.codec, omega arith)
 
 pub put_either-eight-requires : goal.put_either-eight-requires
 put_either-eight-requires c =
-    (
-      c.requires.0.delaying,
-      c.requires.1.delaying,
-      omega (arith, room (goal.at.put_either-eight-requires c).Start, c.put_either-one, c.put_either-two, c.put_either-four, c.put_either-seven),
-    )
+    let h = room c.args.new.now c.args.fresh c.args.old.now c.args.left c.args.to c.args.area.now c.requires.2 in
+    (c.requires.0.delaying, c.requires.1.delaying, omega arith)
 
 pub returns : goal.returns
 returns c =
     let both = all c.args.new.now c.args.fresh c.args.old.now c.args.left c.args.to c.args.area.now c.requires.2
-    (c.put_either-one.ensures.area, c.put_either-one.ensures.end) (c.put_either-two.ensures.area, c.put_either-two.ensures.end) (c.put_either-four.ensures.area, c.put_either-four.ensures.end) (c.put_either-seven.ensures.area, c.put_either-seven.ensures.end)
+    (c.put_either-one.ensures.area, c.put_either-one.ensures.end) (c.put_either-two.ensures.area, c.put_either-two.ensures.end)
+    (c.put_either-four.ensures.area, c.put_either-four.ensures.end)
+    (c.put_either-seven.ensures.area, c.put_either-seven.ensures.end)
     (c.put_either-eight.ensures.area, c.put_either-eight.ensures.end) in
     record { area = both.0; length = both.1 }

@@ -9,30 +9,19 @@ use Rattle.rules.specs.Saved.{record_room}
 use Rattle.elements_reader.specs.Orders.{TransportFirst}
 use Rattle.octets.specs.Patch.{part}
 use Rattle.octets.proofs.Patches.{part_length}
-use Rattle.book.proofs.Entries.{RightEntry, RightEntries, first_entry, other_entries, right_head}
+use Rattle.book.proofs.Entries.{RightEntries, first_entry, other_entries, right_head}
 use Rattle.book.proofs.Found.{all_counted}
 use Rattle.saved_legal.specs.Legal.{awaits_in, record_legal}
 use Rattle.saved_legal.proofs.EachRecord.{entry_first, awaits_few, entry_at, at_hand}
 use Rattle.saved_legal.proofs.EachRecord.{turn_ends, turn_goes_on, all_left, none_left}
 use Rattle.saved_legal.proofs.records.records_legal.Goals as goal
-use Rattle.saved_legal.proofs.records.records_legal.Goals.{After-awaits-awaited, After-part-slot, After-record_legal, In-loop-index}
-
--- the entry at hand, and room for its record
-entry : (c : In-loop-index)
-    → RightEntry c.args.book.now c.loop-index.at
-entry c =
-    first_entry (c.count-entries.result - (c.loop-index.index + 1)) (c.count-entries.result - c.loop-index.index) _ c.loop-index.at (omega arith) c.loop-index.invariant.2
-
-room : (c : In-loop-index)
-    → c.loop-index.index * record_room + record_room ≤ length c.args.records.now
-room c =
-    omega (arith, c.loop-index-test.true, c.count-entries.ensures, c.requires.1)
+use Rattle.saved_legal.proofs.records.records_legal.Goals.{After-awaits-awaited, After-part-slot, After-record_legal}
 
 -- the record that was taken
 slot-long : (c : After-part-slot) → length c.part-slot.result.now ≡ record_room
 slot-long c =
     subst (λ (x : List ℕ). length x ≡ record_room) (sym c.part-slot.ensures)
-    (part_length (c.loop-index.index * record_room) record_room c.args.records.now (room c.before.before))
+    (part_length (c.loop-index.index * record_room) record_room c.args.records.now (omega (arith, c.loop-index-test.true, c.count-entries.ensures, c.requires.1)))
 
 -- what the test of a record says
 judged : (c : After-record_legal)
@@ -61,47 +50,47 @@ loop-index-init c =
 
 pub overflow_add-size : goal.overflow_add-size
 overflow_add-size c =
-    let r = entry (goal.at.overflow_add-size c).In-loop-index in omega arith
+    let r = (first_entry (c.count-entries.result - (c.loop-index.index + 1)) (c.count-entries.result - c.loop-index.index) _ c.loop-index.at (omega arith) c.loop-index.invariant.2) in omega arith
 
 pub bounds-book-at : goal.bounds-book-at
 bounds-book-at c =
-    let r = entry (goal.at.bounds-book-at c).In-loop-index in omega arith
+    let r = (first_entry (c.count-entries.result - (c.loop-index.index + 1)) (c.count-entries.result - c.loop-index.index) _ c.loop-index.at (omega arith) c.loop-index.invariant.2) in omega arith
 
 pub overflow_cast-size : goal.overflow_cast-size
 overflow_cast-size c =
-    let r = entry (goal.at.overflow_cast-size c).In-loop-index in omega arith
+    let r = (first_entry (c.count-entries.result - (c.loop-index.index + 1)) (c.count-entries.result - c.loop-index.index) _ c.loop-index.at (omega arith) c.loop-index.invariant.2) in omega arith
 
 pub overflow_add-from : goal.overflow_add-from
 overflow_add-from c =
-    let r = entry (goal.at.overflow_add-from c).In-loop-index in omega arith
+    let r = (first_entry (c.count-entries.result - (c.loop-index.index + 1)) (c.count-entries.result - c.loop-index.index) _ c.loop-index.at (omega arith) c.loop-index.invariant.2) in omega arith
 
 pub overflow_mul-index : goal.overflow_mul-index
 overflow_mul-index c =
-    let r = room (goal.at.overflow_mul-index c).In-loop-index in omega arith
+    let r = (omega (arith, c.loop-index-test.true, c.count-entries.ensures, c.requires.1)) in omega arith
 
 pub part-slot-requires : goal.part-slot-requires
 part-slot-requires c =
-    room (goal.at.part-slot-requires c).In-loop-index
+    (omega (arith, c.loop-index-test.true, c.count-entries.ensures, c.requires.1))
 
 pub bounds-book-at-in-loop-index : goal.bounds-book-at-in-loop-index
 bounds-book-at-in-loop-index c =
-    let r = entry (goal.at.bounds-book-at-in-loop-index c).In-loop-index in omega arith
+    let r = (first_entry (c.count-entries.result - (c.loop-index.index + 1)) (c.count-entries.result - c.loop-index.index) _ c.loop-index.at (omega arith) c.loop-index.invariant.2) in omega arith
 
 pub overflow_add-at : goal.overflow_add-at
 overflow_add-at c =
-    let r = entry (goal.at.overflow_add-at c).In-loop-index in omega arith
+    let r = (first_entry (c.count-entries.result - (c.loop-index.index + 1)) (c.count-entries.result - c.loop-index.index) _ c.loop-index.at (omega arith) c.loop-index.invariant.2) in omega arith
 
 pub bounds-book-at-in-loop-index-2 : goal.bounds-book-at-in-loop-index-2
 bounds-book-at-in-loop-index-2 c =
-    let r = entry (goal.at.bounds-book-at-in-loop-index-2 c).In-loop-index in omega arith
+    let r = (first_entry (c.count-entries.result - (c.loop-index.index + 1)) (c.count-entries.result - c.loop-index.index) _ c.loop-index.at (omega arith) c.loop-index.invariant.2) in omega arith
 
 pub part-requires : goal.part-requires
 part-requires c =
-    (entry (goal.at.part-requires c).In-loop-index).inside
+    (first_entry (c.count-entries.result - (c.loop-index.index + 1)) (c.count-entries.result - c.loop-index.index) _ c.loop-index.at (omega arith) c.loop-index.invariant.2).inside
 
 pub record_legal-requires : goal.record_legal-requires
 record_legal-requires c =
-    (subst TransportFirst (sym c.part.ensures) (entry_first c.args.book.now c.loop-index.at (entry (goal.at.record_legal-requires c).In-loop-index)), slot-long (goal.at.record_legal-requires c).After-part-slot)
+    (subst TransportFirst (sym c.part.ensures) (entry_first c.args.book.now c.loop-index.at (first_entry (c.count-entries.result - (c.loop-index.index + 1)) (c.count-entries.result - c.loop-index.index) _ c.loop-index.at (omega arith) c.loop-index.invariant.2)), slot-long (goal.at.record_legal-requires c).After-part-slot)
 
 pub returns-then-not-record_legal : goal.returns-then-not-record_legal
 returns-then-not-record_legal c =
@@ -119,7 +108,7 @@ overflow_add-awaited c =
 
 pub overflow_add-at-in-loop-index : goal.overflow_add-at-in-loop-index
 overflow_add-at-in-loop-index c =
-    let r = entry (goal.at.overflow_add-at-in-loop-index c).In-loop-index in omega arith
+    let r = (first_entry (c.count-entries.result - (c.loop-index.index + 1)) (c.count-entries.result - c.loop-index.index) _ c.loop-index.at (omega arith) c.loop-index.invariant.2) in omega arith
 
 pub loop-index-preserved : goal.loop-index-preserved
 loop-index-preserved c =
