@@ -1,5 +1,5 @@
 // Runs a script of packets and events against the bridge, line by line, and writes the bridge's answers. Every line gets its
-// answer, or `line K not understood`; nothing ends the run but the end of the input.
+// answer, or `line K not understood`; nothing ends the run but the end of the input, or an error of reading or writing.
 #![tactic(auto)]
 
 mod dispatch;

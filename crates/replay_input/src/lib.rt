@@ -32,7 +32,7 @@ fn longer(line: &mut [u8], length: usize, octets: &[u8]) -> usize {
     length + octets.len()
 }
 
-// Reads once; where nothing comes the line ends, and the input with it.
+// Reads once; where nothing comes the line ends, and the input with it. An error is handed on.
 fn refill(source: &mut impl Read, input: &mut [u8], at: Reader) -> io::Result<Reader> {
     let mut next = at;
     let got = source.read(input)?;
