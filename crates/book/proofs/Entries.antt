@@ -10,7 +10,8 @@ use lib.ListN.{length, take, drop, get_or, length-drop}
 use lib.Seq.{get_or-drop, drop-drop, drop-cons, drop-length}
 use lib.Dec.{leb, ltb, eqb}
 use borrow.Author.Tests.{ltb-false, eqb-true, eqb-false, not-false, ne_eqb}
-use Rattle.rules.specs.Octets.{if◌then◌else◌, between, same_octets, is_empty}
+use Rattle.rules.specs.Octets.{between, same_octets, is_empty}
+use Rattle.std.specs.Prelude.{if◌then◌else◌}
 use Rattle.rules.specs.Elements.{items}
 use Rattle.rules.specs.Book.{kind_right, media_type, list_right, entries_number, book_number}
 use Rattle.rules.proofs.Tests.{Told?, told, passed, failed}

@@ -1,6 +1,5 @@
 -- One entry of a book as it is checked, by its place.
-use Rattle.std.specs.Prelude.{ℕ, ◌+◌, ◌-◌, List, not, ◌&&◌, length, take, drop, get_or, leb, ltb}
-use Rattle.rules.specs.Octets.{if◌then◌else◌}
+use Rattle.std.specs.Prelude.{ℕ, ◌+◌, ◌-◌, List, not, ◌&&◌, length, take, drop, get_or, leb, ltb, if◌then◌else◌}
 use Rattle.rules.specs.Elements.{items}
 use Rattle.rules.specs.Book.{kind_right, media_type, list_right}
 

@@ -1,6 +1,5 @@
 -- Where a book has a SEID, as the code tells it.
-use Rattle.std.specs.Prelude.{ℕ, zero, suc, ◌+◌, List, take, drop, get_or, eqb}
-use Rattle.rules.specs.Octets.{if◌then◌else◌}
+use Rattle.std.specs.Prelude.{ℕ, zero, suc, ◌+◌, List, take, drop, get_or, eqb, if◌then◌else◌}
 use Rattle.rules.specs.Book.{Found, unknown, known}
 use Rattle.rules.specs.declared.OurSeid.{OurSeid}
 use Rattle.book.specs.declared.places.Located.{Located}

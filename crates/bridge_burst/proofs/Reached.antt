@@ -9,7 +9,7 @@ use lib.ListN.{length, take, drop, get_or, set, replicate, length-append, length
 use lib.Seq.{length-take-le, take_at, drop_at, drop-drop, drop-cons, append_snoc, set_at, take_all}
 use lib.Dec.{ltb}
 use borrow.Author.Tests.{ltb-true, ltb-false}
-use Rattle.rules.specs.Octets.{if◌then◌else◌}
+use Rattle.std.specs.Prelude.{if◌then◌else◌}
 use Rattle.rules.specs.Book.{book_of}
 use Rattle.rules.specs.Saved.{saved_right}
 use Rattle.rules.specs.Host.{nothing_said, Answered, packet_call}

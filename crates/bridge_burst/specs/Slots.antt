@@ -1,6 +1,5 @@
 -- A packet of a burst on its own 64 octets of the reply area.
-use Rattle.std.specs.Prelude.{ℕ, ◌+◌, ◌≤◌, ◌≡◌, List, ◌++◌, true, length, take, drop, ltb}
-use Rattle.rules.specs.Octets.{if◌then◌else◌}
+use Rattle.std.specs.Prelude.{ℕ, ◌+◌, ◌≤◌, ◌≡◌, List, ◌++◌, true, length, take, drop, ltb, if◌then◌else◌}
 use Rattle.rules.specs.Book.{book_number, book_of}
 use Rattle.rules.specs.Saved.{saved_right}
 use Rattle.rules.specs.Host.{Answered}

@@ -1,6 +1,6 @@
 -- What a packet leads to on a right saved area, step by step, and what the code may count on there.
-use Rattle.std.specs.Prelude.{ℕ, ◌+◌, ◌≤◌, ◌≡◌, List, ◌++◌, true, length, take, drop, eqb}
-use Rattle.rules.specs.Octets.{if◌then◌else◌, front}
+use Rattle.std.specs.Prelude.{ℕ, ◌+◌, ◌≤◌, ◌≡◌, List, ◌++◌, true, length, take, drop, eqb, if◌then◌else◌}
+use Rattle.rules.specs.Octets.{front}
 use Rattle.rules.specs.Book.{book_number, book_of}
 use Rattle.rules.specs.Packets.{Message, gather}
 use Rattle.rules.specs.Saved.{count_room, records_place, link_of, records_of, payload_length_in, gathering_at, gathering_in}

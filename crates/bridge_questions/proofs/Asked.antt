@@ -6,7 +6,8 @@ use mathlib.Core.Path.{◌≡◌, refl, sym, ap, ◌∙◌, subst}
 use mathlib.Core.List.{List, [], ◌∷◌}
 use lib.ListN.{length}
 use borrow.Author.Tests.{ne_eqb}
-use Rattle.rules.specs.Octets.{if◌then◌else◌, is_empty}
+use Rattle.rules.specs.Octets.{is_empty}
+use Rattle.std.specs.Prelude.{if◌then◌else◌}
 use Rattle.rules.specs.Book.{book_of}
 use Rattle.rules.specs.Endpoints.{Endpoint, idle_head, end_at}
 use Rattle.rules.specs.Saved.{record_room, config_room, records_of, head_in, ends_in, connection_in, record_at}

@@ -8,7 +8,8 @@ use mathlib.Core.Bool.{Bool, true, false, not}
 use lib.ListN.{length, get_or}
 use lib.Dec.{ltb}
 use borrow.Author.Tests.{lt-ltb, le-ltb}
-use Rattle.rules.specs.Octets.{if◌then◌else◌, octets_in}
+use Rattle.rules.specs.Octets.{octets_in}
+use Rattle.std.specs.Prelude.{if◌then◌else◌}
 use Rattle.rules.specs.Book.{book_number, book_of}
 use Rattle.rules.specs.Packets.{size_right}
 use Rattle.rules.specs.Saved.{records_place, area_for, saved_right}

@@ -7,7 +7,7 @@ use mathlib.Core.Bool.{Bool, true, false}
 use native.Mathlib.Omega.{arith}
 use lib.ListN.{length, get_or}
 use borrow.Author.Tests.{eqb-true, leb-true}
-use Rattle.rules.specs.Octets.{if◌then◌else◌}
+use Rattle.std.specs.Prelude.{if◌then◌else◌}
 use Rattle.rules.specs.Book.{Entry, book_number, book_of}
 use Rattle.rules.specs.Endpoints.{Ends, end_at, legal_end}
 use Rattle.rules.specs.Saved.{record_room, config_room, head_in, ends_in, record_at}

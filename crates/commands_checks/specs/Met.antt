@@ -1,7 +1,6 @@
 -- What the checks of a command come to, as the code tells it: the definitions' `Met`, with the place of the entry in the book's
 -- octets in place of the entry.
-use Rattle.std.specs.Prelude.{ℕ, List, Bool, true, false, length, get_or}
-use Rattle.rules.specs.Octets.{if◌then◌else◌}
+use Rattle.std.specs.Prelude.{ℕ, List, Bool, true, false, length, get_or, if◌then◌else◌}
 use Rattle.rules.specs.Endpoints.{Ends, end_at}
 use Rattle.rules.specs.Commands.{length_right, our_in, may, wrong_state}
 use Rattle.rules.specs.declared.OurSeid.{OurSeid}

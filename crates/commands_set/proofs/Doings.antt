@@ -7,7 +7,7 @@ use mathlib.Core.List.{List, []}
 use mathlib.Core.Bool.{not}
 use lib.ListN.{length, take, drop}
 use lib.Dec.{eqb}
-use Rattle.rules.specs.Octets.{if◌then◌else◌}
+use Rattle.std.specs.Prelude.{if◌then◌else◌}
 use Rattle.rules.specs.Book.{Entry, media_type, book_of}
 use Rattle.rules.specs.Endpoints.{Endpoint, Ends}
 use Rattle.rules.specs.Saved.{record_room, head_room, head_octets}

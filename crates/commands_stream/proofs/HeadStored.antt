@@ -4,7 +4,7 @@ use Prim.Native.Nat.{ℕ, ◌<◌}
 use mathlib.Core.Path.{◌≡◌, sym, ap, ◌∙◌}
 use mathlib.Core.List.{List}
 use mathlib.Core.Bool.{Bool, true, false}
-use Rattle.rules.specs.Octets.{if◌then◌else◌}
+use Rattle.std.specs.Prelude.{if◌then◌else◌}
 use Rattle.rules.specs.Endpoints.{Endpoint, is_up, idle_head, idle, end_at, in_state, moved_by, forgotten, leaving}
 use Rattle.rules.specs.Saved.{head_in, ends_in, record_at}
 use Rattle.rules.specs.declared.State.{State}

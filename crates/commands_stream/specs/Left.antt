@@ -1,6 +1,5 @@
 -- The records once the endpoint of record i has left for a state, by its channel.
-use Rattle.std.specs.Prelude.{ℕ, ◌*◌, List, Bool}
-use Rattle.rules.specs.Octets.{if◌then◌else◌}
+use Rattle.std.specs.Prelude.{ℕ, ◌*◌, List, Bool, if◌then◌else◌}
 use Rattle.rules.specs.Endpoints.{is_up, idle_head, in_state}
 use Rattle.rules.specs.Saved.{record_room, head_in, head_octets, record_at}
 use Rattle.rules.specs.declared.State.{State}

@@ -10,7 +10,8 @@ use lib.ListN.{length, drop}
 use lib.Seq.{drop-drop, drop-nil}
 use lib.Dec.{leb, eqb}
 use borrow.Author.Tests.{eq-eqb, ne_eqb, eqb-true, eqb-false}
-use Rattle.rules.specs.Octets.{if◌then◌else◌, member, some_of}
+use Rattle.rules.specs.Octets.{member, some_of}
+use Rattle.std.specs.Prelude.{if◌then◌else◌}
 use Rattle.rules.specs.Elements.{Category, category_of, transport, reporting, recovery, protection, compression, multiplexing}
 use Rattle.rules.specs.Elements.{codec, delaying, strange, is_strange, items_past, items, headed, is_of, has}
 use Rattle.rules.proofs.Tests.{Told?, passed, failed, told, clash}

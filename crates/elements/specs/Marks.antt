@@ -1,6 +1,5 @@
 -- Where the elements of a list stand: what a walk carries along, in the place of the categories seen.
-use Rattle.std.specs.Prelude.{ℕ, zero, suc, ◌+◌, List, [], ◌∷◌, ◌++◌, Bool, false, length, drop, get_or, leb, eqb}
-use Rattle.rules.specs.Octets.{if◌then◌else◌}
+use Rattle.std.specs.Prelude.{ℕ, zero, suc, ◌+◌, List, [], ◌∷◌, ◌++◌, Bool, false, length, drop, get_or, leb, eqb, if◌then◌else◌}
 use Rattle.rules.specs.Elements.{Category, transport, reporting, recovery, protection, compression, multiplexing}
 use Rattle.rules.specs.Elements.{codec, delaying, strange}
 use Rattle.elements.specs.declared.marks.Marks.{Marks}

@@ -1,6 +1,5 @@
 -- What a walk over a list comes to, and the rules of the two commands.
-use Rattle.std.specs.Prelude.{ℕ, List, Bool, true, false, drop, eqb}
-use Rattle.rules.specs.Octets.{if◌then◌else◌}
+use Rattle.std.specs.Prelude.{ℕ, List, Bool, true, false, drop, eqb, if◌then◌else◌}
 use Rattle.rules.specs.Elements.{Item, items, fault_past, fault_in}
 use Rattle.rules.specs.declared.Rule.{Rule}
 use Rattle.rules.specs.declared.Rule.TheVariants.{Setting, Reconfiguring}

@@ -10,7 +10,8 @@ use lib.ListN.{length, take, drop, get_or}
 use lib.Seq.{length-take-le}
 use lib.Dec.{leb, ltb, eqb, eqb-suc-zero}
 use borrow.Author.Tests.{leb-true, leb-false, ltb-true, eqb-true, eqb-false, ne_eqb}
-use Rattle.rules.specs.Octets.{if◌then◌else◌, member, some_of, each_of}
+use Rattle.rules.specs.Octets.{member, some_of, each_of}
+use Rattle.std.specs.Prelude.{if◌then◌else◌}
 use Rattle.rules.specs.Elements.{Item, whole, short, items, category_of, length_code, offerable, may_follow, start_right}
 use Rattle.rules.specs.Elements.{offer_code, judge, blamed, item_category, missing, lacking, no_fault, fault_or, fault_past}
 use Rattle.rules.specs.Elements.{fault_in, value_within, offers_in, offered}

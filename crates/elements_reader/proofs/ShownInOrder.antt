@@ -9,7 +9,8 @@ use mathlib.Core.Bool.{Bool, true, false}
 use lib.ListN.{length, take, drop, length-append}
 use lib.Seq.{take-append-add}
 use lib.Dec.{leb, eqb}
-use Rattle.rules.specs.Octets.{if◌then◌else◌, member}
+use Rattle.rules.specs.Octets.{member}
+use Rattle.std.specs.Prelude.{if◌then◌else◌}
 use Rattle.rules.specs.Elements.{Item, whole, short, items, element}
 use Rattle.rules.specs.Book.{list_right, written, up_to_codec}
 use Rattle.rules.proofs.Tests.{Told?, passed, failed, told, clash}

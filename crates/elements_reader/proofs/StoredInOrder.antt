@@ -10,7 +10,8 @@ use mathlib.Core.Option.{Option, none, some}
 use lib.ListN.{length, get_or}
 use lib.Dec.{leb, eqb}
 use borrow.Author.Tests.{leb-true, le-leb, eqb-true, eq-eqb, ne_eqb}
-use Rattle.rules.specs.Octets.{if◌then◌else◌, same_octets, member}
+use Rattle.rules.specs.Octets.{same_octets, member}
+use Rattle.std.specs.Prelude.{if◌then◌else◌}
 use Rattle.rules.specs.Elements.{Item, whole, short, items, element, category_of, length_code, offered, is_strange, fixed}
 use Rattle.rules.specs.Elements.{offerable, judge, blamed, item_category, missing, lacking, no_fault, fault_or, fault_past}
 use Rattle.rules.specs.Elements.{fault_in, has, clear_low, kept, pick, picks, stored, could_store}

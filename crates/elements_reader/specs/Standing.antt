@@ -1,6 +1,5 @@
 -- What stands at a place of a list of elements, as the code tells it, and the items from there on.
-use Rattle.std.specs.Prelude.{ℕ, ◌+◌, List, [], ◌∷◌, length, take, drop, leb}
-use Rattle.rules.specs.Octets.{if◌then◌else◌}
+use Rattle.std.specs.Prelude.{ℕ, ◌+◌, List, [], ◌∷◌, length, take, drop, leb, if◌then◌else◌}
 use Rattle.rules.specs.Elements.{Item, whole, short, items}
 use Rattle.elements_reader.specs.declared.Element.{Element}
 use Rattle.elements_reader.specs.declared.Element.TheVariants.{End, Short, Whole}

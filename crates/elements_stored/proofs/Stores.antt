@@ -11,7 +11,8 @@ use lib.ListN.{length, take, drop, get_or, length-drop}
 use lib.Seq.{drop-drop, get_or-drop}
 use lib.Dec.{leb, eqb}
 use borrow.Author.Tests.{leb-true, eqb-true, eqb-false, eq-eqb, ne_eqb}
-use Rattle.rules.specs.Octets.{if◌then◌else◌, member, some_of, same_octets}
+use Rattle.rules.specs.Octets.{member, some_of, same_octets}
+use Rattle.std.specs.Prelude.{if◌then◌else◌}
 use Rattle.rules.specs.Elements.{Item, whole, short, headed, items_past, items, category_of, is_strange, fixed, item_code, is_of, has}
 use Rattle.rules.specs.Elements.{item_category, blamed, fault_past, fault_in, offerable, pick, picks, stored, restored, could_store}
 use Rattle.rules.specs.declared.Rule.{Rule}

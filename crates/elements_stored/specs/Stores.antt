@@ -1,6 +1,5 @@
 -- What a configuration is stored as, by the marks of the two lists that it comes from.
-use Rattle.std.specs.Prelude.{ℕ, ◌+◌, ◌-◌, ◌≤◌, ◌<◌, List, [], ◌++◌, length, take, drop, get_or, eqb}
-use Rattle.rules.specs.Octets.{if◌then◌else◌}
+use Rattle.std.specs.Prelude.{ℕ, ◌+◌, ◌-◌, ◌≤◌, ◌<◌, List, [], ◌++◌, length, take, drop, get_or, eqb, if◌then◌else◌}
 use Rattle.rules.specs.Elements.{element, kept}
 use Rattle.elements.specs.declared.marks.Marks.{Marks}
 

@@ -1,7 +1,6 @@
 -- The contracts of the calls that a host in C makes: the numbers that cross are those of the definition of the call, and so is
 -- every lent area at exit.
-use Rattle.std.specs.Prelude.{ℕ, ◌+◌, ◌*◌, ◌≤◌, ◌≡◌, List, [], ◌∷◌, length, get_or, eqb}
-use Rattle.rules.specs.Octets.{if◌then◌else◌}
+use Rattle.std.specs.Prelude.{ℕ, ◌+◌, ◌*◌, ◌≤◌, ◌≡◌, List, [], ◌∷◌, length, get_or, eqb, if◌then◌else◌}
 use Rattle.rules.specs.Saved.{records_place, record_room, head_room, state_octet, channel_octet, config_length_place}
 use Rattle.rules.specs.Host.{Kept, event_call, refusal_of, Shown, settings_call, status_call}
 use Rattle.rules.specs.declared.OurSeid.{OurSeid}

@@ -10,7 +10,8 @@ use lib.ListN.{length, take, drop, length-take, length-drop}
 use lib.Seq.{take_all}
 use lib.Dec.{leb, ltb, eqb, lit≤}
 use borrow.Author.Tests.{lt-ltb, le-ltb, le-leb, lt-leb, leb-true, leb-false, eq-eqb, ne_eqb}
-use Rattle.rules.specs.Octets.{if◌then◌else◌, front, between}
+use Rattle.rules.specs.Octets.{front, between}
+use Rattle.std.specs.Prelude.{if◌then◌else◌}
 use Rattle.rules.specs.Packets.{Message, size_right, longest}
 use Rattle.rules.specs.Cutting.{Headers, avdtp, packets_for, part_of, header, count_of, packet_at}
 use Rattle.rules.specs.Host.{packets_call, Cut, cut_refusal, cut_call}

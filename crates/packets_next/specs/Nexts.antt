@@ -1,7 +1,7 @@
 -- What a packet leads to, as the definitions' `taken` has it, and the message that is complete.
-use Rattle.std.specs.Prelude.{ℕ, List, Bool, ◌&&◌, length, drop, leb}
+use Rattle.std.specs.Prelude.{ℕ, List, Bool, ◌&&◌, length, drop, leb, if◌then◌else◌}
 use Rattle.std.proofs.Math.Option.{Option, none, some}
-use Rattle.rules.specs.Octets.{if◌then◌else◌, between}
+use Rattle.rules.specs.Octets.{between}
 use Rattle.rules.specs.Packets.{Message, Packet, single, start, further, wrong, packet_in, Gathering, is_next, extended, longest}
 use Rattle.packets_next.specs.declared.nexts.Next.{Next}
 use Rattle.packets_next.specs.declared.nexts.Next.TheVariants.{Ended, Single, Begun, Grown, Complete}

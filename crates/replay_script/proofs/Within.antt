@@ -5,7 +5,7 @@ use mathlib.Core.Bool.{Bool, true, false}
 use native.Mathlib.Omega.{arith}
 use lib.ListN.{length, get_or}
 use lib.Dec.{eqb}
-use Rattle.rules.specs.Octets.{if◌then◌else◌}
+use Rattle.std.specs.Prelude.{if◌then◌else◌}
 use Rattle.replay_script.specs.Lines.{first_of, is_blank, kept_from, kept_of}
 
 pub first_within : (c : ℕ) (s : List ℕ) → first_of c s ≤ length s

@@ -1,6 +1,5 @@
 -- A line of a script: its step, and the words of a step.
-use Rattle.std.specs.Prelude.{ℕ, zero, suc, ◌+◌, ◌-◌, List, [], ◌∷◌, Bool, ◌||◌, length, take, drop, get_or, eqb, ltb}
-use Rattle.rules.specs.Octets.{if◌then◌else◌}
+use Rattle.std.specs.Prelude.{ℕ, zero, suc, ◌+◌, ◌-◌, List, [], ◌∷◌, Bool, ◌||◌, length, take, drop, get_or, eqb, ltb, if◌then◌else◌}
 
 -- where the first c stands
 unfoldable pub first_of : ℕ → List ℕ → ℕ

@@ -1,8 +1,8 @@
 -- A table of texts: lines, each a name, a colon (58) and what is said under the name.
-use Rattle.std.specs.Prelude.{ℕ, suc, ◌+◌, List, [], ◌∷◌, ◌++◌, Bool, true, ◌&&◌, length, drop, eqb}
+use Rattle.std.specs.Prelude.{ℕ, suc, ◌+◌, List, [], ◌∷◌, ◌++◌, Bool, true, ◌&&◌, length, drop, eqb, if◌then◌else◌}
 use Prim.Native.Char.{code}
 use Prim.Native.String.{String, [] as none_left, ◌∷◌ as ◌then◌}
-use Rattle.rules.specs.Octets.{if◌then◌else◌, same_octets}
+use Rattle.rules.specs.Octets.{same_octets}
 use Rattle.replay_script.specs.Lines.{part_at}
 use Rattle.replay_script.specs.Numbers.{none}
 

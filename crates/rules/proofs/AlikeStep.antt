@@ -10,7 +10,8 @@ use borrow.Author.Tests.{leb-false, eqb-true, eqb-false, ne_eqb}
 use native.Mathlib.Omega.{arith}
 use Rattle.rules.proofs.Tests.{Told?, passed, failed, told, clash, and_l, and_r, not_passed, same_octets_lem}
 use Rattle.rules.proofs.Lists.{items_shown}
-use Rattle.rules.specs.Octets.{if◌then◌else◌, some_of, each_of}
+use Rattle.rules.specs.Octets.{some_of, each_of}
+use Rattle.std.specs.Prelude.{if◌then◌else◌}
 use Rattle.rules.specs.Elements.{Item, whole, short, items, category_of, strange, transport, reporting, recovery, protection}
 use Rattle.rules.specs.Elements.{compression, multiplexing, codec, delaying, offers_in, offered, fixed, is_strange, item_code}
 use Rattle.rules.specs.Elements.{judge, item_category, blamed, fault_or, fault_past, fault_in, is_of, has}

@@ -13,7 +13,8 @@ use lib.Seq.{length-take-le}
 use lib.Dec.{leb, ltb, eqb, lit≤}
 use borrow.Author.Tests.{leb-true, eqb-true, not-false}
 use Rattle.rules.specs.Computed.{computed}
-use Rattle.rules.specs.Octets.{if◌then◌else◌, between, same_octets, member, is_empty, front}
+use Rattle.rules.specs.Octets.{between, same_octets, member, is_empty, front}
+use Rattle.std.specs.Prelude.{if◌then◌else◌}
 use Rattle.rules.specs.Elements.{items}
 use Rattle.rules.specs.Book.{Entry, Book, kind_right, media_type, list_right, entries_number, book_number, book_of, Found}
 use Rattle.rules.specs.Book.{unknown, known, find}

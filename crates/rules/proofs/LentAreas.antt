@@ -10,7 +10,8 @@ use lib.ListN.{length, take, drop, replicate, length-drop, length-replicate}
 use lib.Seq.{take-append_seam, length-take-le, take_at, drop_at}
 use lib.Dec.{eqb}
 use borrow.Author.Tests.{eqb-true}
-use Rattle.rules.specs.Octets.{if◌then◌else◌, front}
+use Rattle.rules.specs.Octets.{front}
+use Rattle.std.specs.Prelude.{if◌then◌else◌}
 use Rattle.rules.specs.Book.{Book, book_number, book_of}
 use Rattle.rules.specs.Packets.{Message, Gathering, gather, size_right}
 use Rattle.rules.specs.Gathered.{gather_all}

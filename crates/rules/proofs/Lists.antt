@@ -10,7 +10,8 @@ use lib.ListN.{length, take, drop, length-append, take-append-drop}
 use lib.Seq.{take-append_seam, drop-append_seam, drop-nil, length-take-le}
 use lib.Dec.{leb}
 use borrow.Author.Tests.{le-leb, lt-leb, leb-true}
-use Rattle.rules.specs.Octets.{if◌then◌else◌, each_of}
+use Rattle.rules.specs.Octets.{each_of}
+use Rattle.std.specs.Prelude.{if◌then◌else◌}
 use Rattle.rules.specs.Elements.{Item, whole, short, headed, items_past, items, element}
 use Rattle.rules.specs.Book.{written, up_to_codec}
 use Rattle.rules.proofs.Tests.{Told?, passed, failed, told, clash}

@@ -9,7 +9,8 @@ use lib.Seq.{get_or-set_same, get_or-set_other, lt-length-set}
 use lib.Dec.{eqb}
 use borrow.Author.Tests.{eqb-true, eqb-false, le-leb}
 use native.Mathlib.Omega.{arith}
-use Rattle.rules.specs.Octets.{if◌then◌else◌, some_of}
+use Rattle.rules.specs.Octets.{some_of}
+use Rattle.std.specs.Prelude.{if◌then◌else◌}
 use Rattle.rules.specs.Elements.{items, fault_in}
 use Rattle.rules.specs.Book.{Entry, Book, Found, unknown, known, find}
 use Rattle.rules.specs.Packets.{Message}

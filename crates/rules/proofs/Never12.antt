@@ -9,7 +9,8 @@ use mathlib.Core.Bool.{true, false, not, ◌&&◌}
 use lib.ListN.{length, take, drop, get_or}
 use lib.Dec.{leb, ltb, eqb, lit≤}
 use borrow.Author.Tests.{ne_eqb, le-ltb}
-use Rattle.rules.specs.Octets.{if◌then◌else◌, between, same_octets, is_empty, some_of}
+use Rattle.rules.specs.Octets.{between, same_octets, is_empty, some_of}
+use Rattle.std.specs.Prelude.{if◌then◌else◌}
 use Rattle.rules.specs.Elements.{items}
 use Rattle.rules.specs.Book.{Book, kind_right, media_type, list_right, entries_number, book_number, book_of, Found, unknown}
 use Rattle.rules.specs.Book.{known, find}

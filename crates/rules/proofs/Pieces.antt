@@ -11,7 +11,7 @@ use lib.ListN.{length, take, drop, length-append, length-take, length-drop}
 use lib.Seq.{take-add, take_all}
 use lib.Dec.{leb, ltb, eqb}
 use borrow.Author.Tests.{le-leb, leb-true, leb-false, lt-ltb, le-ltb, eq-eqb, ne_eqb}
-use Rattle.rules.specs.Octets.{if◌then◌else◌}
+use Rattle.std.specs.Prelude.{if◌then◌else◌}
 use Rattle.rules.specs.Packets.{Message, Packet, single, start, further, longest, Gathering, completes, gathers, extended}
 use Rattle.rules.specs.Packets.{begin, is_next, joined, goes_on, taken}
 use Rattle.rules.specs.Cutting.{Headers, packets_for, part_of}

@@ -8,7 +8,7 @@ use mathlib.Core.Bool.{Bool, true, false}
 use lib.ListN.{length, get_or, set}
 use lib.Dec.{eqb}
 use borrow.Author.Tests.{eqb-true}
-use Rattle.rules.specs.Octets.{if◌then◌else◌}
+use Rattle.std.specs.Prelude.{if◌then◌else◌}
 use Rattle.rules.specs.Book.{Entry, Book, Found, unknown, known, later, find}
 use Rattle.rules.specs.Endpoints.{Endpoint, Ends, idle, is_awaited, legal_end, legal_ends, awaiting, end_at}
 use Rattle.rules.specs.declared.OurSeid.{OurSeid}

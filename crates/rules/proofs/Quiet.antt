@@ -15,7 +15,8 @@ use Rattle.rules.proofs.AlikeStep.{find_alike, answer_same, happens_same}
 use Rattle.rules.proofs.QuietStep.{quiet_ends, quiet_unreported, fresh_quiet, answer_quiet, happens_quiet}
 use Rattle.rules.proofs.View.{view_step, begins_view}
 use Rattle.rules.proofs.LentAreas.{answers_cleared, after_cleared, restrained_cleared}
-use Rattle.rules.specs.Octets.{if◌then◌else◌, is_empty, each_of, front}
+use Rattle.rules.specs.Octets.{is_empty, each_of, front}
+use Rattle.std.specs.Prelude.{if◌then◌else◌}
 use Rattle.rules.specs.Elements.{items}
 use Rattle.rules.specs.Book.{Entry, Book, Found, unknown, known, find, book_number, book_of, written, up_to_codec, shown_by_02}
 use Rattle.rules.specs.Packets.{Message, Gathering, size_right, gather}

@@ -9,7 +9,8 @@ use native.Mathlib.Omega.{arith}
 use lib.ListN.{length, get_or, replicate, length-append}
 use lib.Dec.{ltb, eqb, lit<, lit≤}
 use borrow.Author.Tests.{le-ltb}
-use Rattle.rules.specs.Octets.{if◌then◌else◌, between}
+use Rattle.rules.specs.Octets.{between}
+use Rattle.std.specs.Prelude.{if◌then◌else◌}
 use Rattle.rules.specs.Packets.{Message, single, start, further, a_single, a_start, a_continue, an_end, size_right, label_in}
 use Rattle.rules.specs.Packets.{mtype_in, signal_in, packet_type_in, message_from, read_as, read, packet_in, Gathering, completes}
 use Rattle.rules.specs.Packets.{gathers, taken, gather}

@@ -8,7 +8,8 @@ use mathlib.Core.Option.{Option, none, some}
 use lib.ListN.{length}
 use lib.Dec.{eqb, ltb}
 use native.Mathlib.Omega.{arith}
-use Rattle.rules.specs.Octets.{if◌then◌else◌, front}
+use Rattle.rules.specs.Octets.{front}
+use Rattle.std.specs.Prelude.{if◌then◌else◌}
 use Rattle.rules.specs.Book.{Book, Found, unknown, known, book_number, book_of, find}
 use Rattle.rules.specs.Packets.{Message, Gathering, gather}
 use Rattle.rules.specs.Cutting.{packet_at}

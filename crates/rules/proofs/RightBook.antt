@@ -7,7 +7,8 @@ use mathlib.Core.Bool.{Bool, true, false, not, ◌&&◌}
 use lib.ListN.{length, take, drop, get_or, length-take}
 use lib.Dec.{leb, ltb}
 use borrow.Author.Tests.{leb-true, ltb-true, ltb-false, le-leb, not-false}
-use Rattle.rules.specs.Octets.{if◌then◌else◌, between, same_octets, each_of}
+use Rattle.rules.specs.Octets.{between, same_octets, each_of}
+use Rattle.std.specs.Prelude.{if◌then◌else◌}
 use Rattle.rules.specs.Elements.{items}
 use Rattle.rules.specs.Book.{Entry, Book, kind_right, media_type, list_right, entries_number, book_number, entries_in, book_of}
 use Rattle.rules.proofs.Tests.{and_l, and_r, and_both, between_least, between_most, between_both}

@@ -7,7 +7,7 @@ use mathlib.Core.Bool.{true}
 use lib.ListN.{length, take, drop, replicate}
 use lib.Dec.{leb, ltb, eqb}
 use borrow.Author.Tests.{leb-true, le-leb, ltb-false, eq-eqb, eqb-true, eqb-false}
-use Rattle.rules.specs.Octets.{if◌then◌else◌}
+use Rattle.std.specs.Prelude.{if◌then◌else◌}
 use Rattle.rules.specs.Book.{Book, book_number, book_of}
 use Rattle.rules.specs.Endpoints.{Connection, legal, fresh_connection, happens}
 use Rattle.rules.specs.Saved.{area_for, count_in, connection_in, store, saved_right}

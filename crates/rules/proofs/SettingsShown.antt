@@ -8,7 +8,8 @@ use mathlib.Core.Bool.{true, false}
 use lib.ListN.{length}
 use lib.Dec.{eqb, lit≤}
 use borrow.Author.Tests.{eqb-true, eqb-false}
-use Rattle.rules.specs.Octets.{if◌then◌else◌, member, is_empty}
+use Rattle.rules.specs.Octets.{member, is_empty}
+use Rattle.std.specs.Prelude.{if◌then◌else◌}
 use Rattle.rules.specs.Elements.{items_past, items, fault_in, fault_past, lacking, missing}
 use Rattle.rules.specs.Book.{Entry, Book, media_type, list_right, Found, unknown, known, find, book_of}
 use Rattle.rules.specs.Endpoints.{Endpoint, Ends, end_at, legal_end, legal_ends}

@@ -11,7 +11,8 @@ use lib.ListN.{length, length-append}
 use lib.Dec.{eqb, eqb-suc-zero}
 use lib.Bits.{bit_and}
 use borrow.Author.Tests.{eqb-true, eq-eqb, ne_eqb, not-false}
-use Rattle.rules.specs.Octets.{if◌then◌else◌, same_octets, member, is_empty, some_of}
+use Rattle.rules.specs.Octets.{same_octets, member, is_empty, some_of}
+use Rattle.std.specs.Prelude.{if◌then◌else◌}
 use Rattle.rules.specs.Elements.{Item, whole, short, items, element, category_of, length_code, item_category, is_of, has}
 use Rattle.rules.specs.Elements.{bits_within, codec_within, value_within, offers_in, offered, is_strange, fixed, item_code}
 use Rattle.rules.specs.Elements.{offerable, no_fault, judge, blamed, missing, lacking, fault_or, fault_past, fault_in, clear_low}

@@ -1,6 +1,5 @@
 -- A burst: one call for up to 16 packets, with the replies in order (document 02, Q-1).
-use Rattle.std.specs.Prelude.{ℕ, ◌-◌, List, [], ◌∷◌, ◌++◌, length, take, drop, replicate, ltb, eqb}
-use Rattle.rules.specs.Octets.{if◌then◌else◌}
+use Rattle.std.specs.Prelude.{ℕ, ◌-◌, List, [], ◌∷◌, ◌++◌, length, take, drop, replicate, ltb, eqb, if◌then◌else◌}
 use Rattle.rules.specs.Host.{saved_number, sized_or, nothing_said, Answered, packet_call}
 use Rattle.rules.specs.declared.Told.{Told}
 use Rattle.rules.specs.declared.Burst.{Burst}

@@ -1,7 +1,6 @@
 -- Every command: the checks that it begins with, and what it does at the endpoint that it names (document 01, Commands; 001, 8.5
 -- to 8.19).
-use Rattle.std.specs.Prelude.{ℕ, ◌+◌, ◌*◌, ◌/◌, List, [], ◌∷◌, Bool, true, false, not, ◌&&◌, ◌||◌, length, drop, get_or, set, leb, eqb}
-use Rattle.rules.specs.Octets.{if◌then◌else◌}
+use Rattle.std.specs.Prelude.{ℕ, ◌+◌, ◌*◌, ◌/◌, List, [], ◌∷◌, Bool, true, false, not, ◌&&◌, ◌||◌, length, drop, get_or, set, leb, eqb, if◌then◌else◌}
 use Rattle.rules.specs.Elements.{items, fault_in, stored, restored}
 use Rattle.rules.specs.Book.{Entry, Book, Found, unknown, known, find, shown_by_02, shown_by_0C}
 use Rattle.rules.specs.Packets.{Message}

@@ -1,8 +1,8 @@
 -- Lists of elements: how octets are read as elements, the checks of a list by its rule with the first failure, and what a stored
 -- configuration is (document 01, The endpoint book and Elements).
-use Rattle.std.specs.Prelude.{ℕ, zero, suc, ◌/◌, ◌*◌, List, [], ◌∷◌, ◌++◌, Bool, true, false, not, ◌&&◌, ◌||◌, length, take, get_or, leb, ltb, eqb}
+use Rattle.std.specs.Prelude.{ℕ, zero, suc, ◌/◌, ◌*◌, List, [], ◌∷◌, ◌++◌, Bool, true, false, not, ◌&&◌, ◌||◌, length, take, get_or, leb, ltb, eqb, if◌then◌else◌}
 use Rattle.std.specs.Int.Bits.{bit_and}
-use Rattle.rules.specs.Octets.{if◌then◌else◌, same_octets, member, some_of}
+use Rattle.rules.specs.Octets.{same_octets, member, some_of}
 use Rattle.rules.specs.declared.Rule.{Rule}
 use Rattle.rules.specs.declared.Rule.TheVariants.{Offer, Setting, Reconfiguring}
 use Rattle.rules.specs.declared.Fault.{Fault}

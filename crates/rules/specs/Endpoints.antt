@@ -1,7 +1,7 @@
 -- Endpoints and connections: when a connection is legal, and the link events (document 01, What the host is told and Commands).
-use Rattle.std.specs.Prelude.{ℕ, ◌+◌, List, [], ◌∷◌, map, Bool, true, false, not, ◌&&◌, ◌||◌, get_or, set, leb, eqb}
+use Rattle.std.specs.Prelude.{ℕ, ◌+◌, List, [], ◌∷◌, map, Bool, true, false, not, ◌&&◌, ◌||◌, get_or, set, leb, eqb, if◌then◌else◌}
 use Rattle.std.proofs.Math.Option.{Option, none, some}
-use Rattle.rules.specs.Octets.{if◌then◌else◌, between, is_empty}
+use Rattle.rules.specs.Octets.{between, is_empty}
 use Rattle.rules.specs.Elements.{items, has, could_store}
 use Rattle.rules.specs.Book.{Entry, Book, is_source, Found, unknown, known, find}
 use Rattle.rules.specs.Packets.{Gathering, gathering_right}

@@ -1,9 +1,9 @@
 -- The host's calls: what each returns and what each lent area holds afterwards, refusals 1 to 12 in the stated order (document
 -- 01, What the host is told).
-use Rattle.std.specs.Prelude.{ℕ, zero, suc, List, [], true, false, not, ◌&&◌, leb, ltb, eqb}
+use Rattle.std.specs.Prelude.{ℕ, zero, suc, List, [], true, false, not, ◌&&◌, leb, ltb, eqb, if◌then◌else◌}
 use Rattle.std.proofs.Math.Option.{Option, none, some}
 use lib.ListN.{length}
-use Rattle.rules.specs.Octets.{if◌then◌else◌, front, is_empty}
+use Rattle.rules.specs.Octets.{front, is_empty}
 use Rattle.rules.specs.Book.{Entry, Book, book_number, book_of, Found, unknown, known, find}
 use Rattle.rules.specs.Packets.{Message, Gathering, gather, size_right, longest}
 use Rattle.rules.specs.Cutting.{avdtp, packets_for, packet_at, count_of}

@@ -1,7 +1,7 @@
 -- The words of "a rejected Start or Suspend names the first endpoint that failed and has moved exactly those listed before it".
-use Rattle.std.specs.Prelude.{ℕ, ◌*◌, ◌≡◌, List, [], ◌∷◌, ◌++◌, Bool, true, false, ◌&&◌, ◌||◌, length, set, eqb}
+use Rattle.std.specs.Prelude.{ℕ, ◌*◌, ◌≡◌, List, [], ◌∷◌, ◌++◌, Bool, true, false, ◌&&◌, ◌||◌, length, set, eqb, if◌then◌else◌}
 use Rattle.std.proofs.Math.Option.{Option, none, some}
-use Rattle.rules.specs.Octets.{if◌then◌else◌, some_of, front}
+use Rattle.rules.specs.Octets.{some_of, front}
 use Rattle.rules.specs.Book.{Book, Found, unknown, known, find}
 use Rattle.rules.specs.Packets.{Message}
 use Rattle.rules.specs.Endpoints.{Endpoint, Ends, end_at, in_state, moved_by}

@@ -1,10 +1,5 @@
--- Words for all that follows: choosing by a test, comparing octets, and what a lent area holds after a write.
-use Rattle.std.specs.Prelude.{ℕ, List, [], ◌∷◌, ◌++◌, Bool, true, false, ◌&&◌, ◌||◌, length, drop, leb, ltb, eqb}
-
-infixr 5 if◌then◌else◌
-abbrev pub if◌then◌else◌ {ℓ} : {A : Type ℓ} → Bool → A → A → A
-if true then a else b = a
-if false then a else b = b
+-- Words for all that follows: comparing octets, and what a lent area holds after a write.
+use Rattle.std.specs.Prelude.{ℕ, List, [], ◌∷◌, ◌++◌, Bool, true, false, ◌&&◌, ◌||◌, length, drop, leb, ltb, eqb, if◌then◌else◌}
 
 -- least ≤ n ≤ most
 unfoldable pub between : ℕ → ℕ → ℕ → Bool

@@ -1,8 +1,8 @@
 -- The saved connection: where everything lies in the lent octets, how a connection is read from them and stored into them, and
 -- what of the octets counts (document 01, What the host is told: number 12; the layout is ours).
-use Rattle.std.specs.Prelude.{ℕ, zero, suc, ◌+◌, ◌*◌, ◌/◌, ◌%◌, List, [], ◌∷◌, ◌++◌, Bool, true, ◌&&◌, ◌||◌, length, take, drop, get_or, leb, eqb}
+use Rattle.std.specs.Prelude.{ℕ, zero, suc, ◌+◌, ◌*◌, ◌/◌, ◌%◌, List, [], ◌∷◌, ◌++◌, Bool, true, ◌&&◌, ◌||◌, length, take, drop, get_or, leb, eqb, if◌then◌else◌}
 use Rattle.std.proofs.Math.Option.{Option, none, some}
-use Rattle.rules.specs.Octets.{if◌then◌else◌, same_octets, front}
+use Rattle.rules.specs.Octets.{same_octets, front}
 use Rattle.rules.specs.Book.{Book}
 use Rattle.rules.specs.Packets.{Gathering, longest}
 use Rattle.rules.specs.Endpoints.{Endpoint, Ends, Link, Connection, legal}

@@ -1,6 +1,5 @@
 -- The trace table and the cutting cases of document 01 as data, and what playing a table over the host's calls gives.
-use Rattle.std.specs.Prelude.{ℕ, List, [], ◌∷◌, map, Bool, true, false, not, length, take, replicate, eqb}
-use Rattle.rules.specs.Octets.{if◌then◌else◌}
+use Rattle.std.specs.Prelude.{ℕ, List, [], ◌∷◌, map, Bool, true, false, not, length, take, replicate, eqb, if◌then◌else◌}
 use Rattle.rules.specs.Book.{book_of, find, Found, unknown, known}
 use Rattle.rules.specs.Cutting.{cut_up}
 use Rattle.rules.specs.Endpoints.{Endpoint, end_at}

@@ -1,7 +1,7 @@
 -- The words of "each call is a function of the connection that the saved octets show": what a call says over a connection and
 -- where the connection goes, on a right book and a right area, where of the refusals only 8, 13, 9 and 10 can be given.
-use Rattle.std.specs.Prelude.{ℕ, ◌≡◌, List, [], ◌∷◌, ◌++◌, true, not, length, take, drop, ltb, eqb}
-use Rattle.rules.specs.Octets.{if◌then◌else◌, front}
+use Rattle.std.specs.Prelude.{ℕ, ◌≡◌, List, [], ◌∷◌, ◌++◌, true, not, length, take, drop, ltb, eqb, if◌then◌else◌}
+use Rattle.rules.specs.Octets.{front}
 use Rattle.rules.specs.Book.{Book, find, book_of}
 use Rattle.rules.specs.Packets.{size_right}
 use Rattle.rules.specs.Endpoints.{Connection, fresh_connection, happens}

@@ -1,6 +1,5 @@
 -- Link events over the saved records: the number that the host is told, and what the records hold then.
-use Rattle.std.specs.Prelude.{ℕ, List, map, length, set, eqb}
-use Rattle.rules.specs.Octets.{if◌then◌else◌}
+use Rattle.std.specs.Prelude.{ℕ, List, map, length, set, eqb, if◌then◌else◌}
 use Rattle.rules.specs.Book.{Book, Found, unknown, known, find}
 use Rattle.rules.specs.Endpoints.{Ends, end_at, awaiting, up_in, is_up, forgotten}
 use Rattle.rules.specs.Saved.{ends_in, store_ends}

@@ -9,7 +9,8 @@ use lib.ListN.{length, take, drop, get_or, length-drop}
 use lib.Seq.{drop-drop}
 use lib.Dec.{leb, eqb}
 use borrow.Author.Tests.{leb-true, eq-eqb, ne_eqb}
-use Rattle.rules.specs.Octets.{if◌then◌else◌, same_octets, is_empty}
+use Rattle.rules.specs.Octets.{same_octets, is_empty}
+use Rattle.std.specs.Prelude.{if◌then◌else◌}
 use Rattle.rules.specs.Book.{Entry, Book, media_type, entries_in, book_of}
 use Rattle.rules.specs.Endpoints.{is_reported, is_idle, is_awaited, channel_right, takes_delay, delay_right, keeps_nothing}
 use Rattle.rules.specs.Endpoints.{keeps_settings, legal_end, legal_ends, awaiting}

@@ -1,6 +1,6 @@
 -- The legality of the records part by part, as the code tests it: one record, and all records with the channels that they await.
-use Rattle.std.specs.Prelude.{ℕ, ◌+◌, List, Bool, ◌&&◌, ◌||◌, take, get_or, leb, eqb}
-use Rattle.rules.specs.Octets.{if◌then◌else◌, same_octets}
+use Rattle.std.specs.Prelude.{ℕ, ◌+◌, List, Bool, ◌&&◌, ◌||◌, take, get_or, leb, eqb, if◌then◌else◌}
+use Rattle.rules.specs.Octets.{same_octets}
 use Rattle.rules.specs.Book.{Entry, Book}
 use Rattle.rules.specs.Endpoints.{idle_head, is_awaited, legal_end, legal_ends, awaiting}
 use Rattle.rules.specs.Saved.{head_room, config_room, channel_in, endpoint_in, record_right, head_octets, ends_in, records_right}

@@ -7,7 +7,8 @@ use mathlib.Core.Bool.{Bool, true, false, not}
 use lib.ListN.{take, drop, get_or}
 use borrow.Author.Rules.{rules}
 use borrow.Author.Tests.{lt-ltb, le-ltb, le-leb, lt-leb}
-use Rattle.rules.specs.Octets.{if◌then◌else◌, between, same_octets}
+use Rattle.rules.specs.Octets.{between, same_octets}
+use Rattle.std.specs.Prelude.{if◌then◌else◌}
 use Rattle.rules.specs.Book.{entries_number, book_number}
 use Rattle.rules.proofs.Tests.{between_both}
 use Rattle.octets.specs.Patch.{part}

@@ -9,7 +9,7 @@ use mathlib.Core.List.{List}
 use mathlib.Core.Bool.{Bool, true, false, ◌&&◌, and-true, and-false}
 use lib.Dec.{leb, ltb, eqb}
 use lib.ListN.{length, drop, get_or, length-drop}
-use Rattle.rules.specs.Octets.{if◌then◌else◌}
+use Rattle.std.specs.Prelude.{if◌then◌else◌}
 use Rattle.rules.specs.Packets.{label_in, mtype_in, is_next, longest}
 use Rattle.rules.specs.Saved.{gathering_at, gathering_in, payload_length_in}
 use Rattle.rules.specs.declared.Header.{Header}

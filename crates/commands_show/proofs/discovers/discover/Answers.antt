@@ -4,7 +4,8 @@ use mathlib.Core.Path.{◌≡◌, sym, ap, ◌∙◌}
 use mathlib.Core.List.{List, [], ◌∷◌}
 use mathlib.Core.Bool.{Bool}
 use lib.ListN.{length}
-use Rattle.rules.specs.Octets.{if◌then◌else◌, front}
+use Rattle.rules.specs.Octets.{front}
+use Rattle.std.specs.Prelude.{if◌then◌else◌}
 use Rattle.rules.specs.Book.{book_of}
 use Rattle.rules.specs.Commands.{accept, reject, stays, rejects, length_right, discovered, discover, obey}
 use Rattle.rules.specs.Host.{payload_of}

@@ -8,7 +8,7 @@ use lib.ListN.{drop, get_or}
 use lib.Seq.{get_or-take, get_or-drop}
 use lib.Dec.{eqb}
 use borrow.Author.Tests.{leb-true, eq-eqb, ne_eqb}
-use Rattle.rules.specs.Octets.{if◌then◌else◌}
+use Rattle.std.specs.Prelude.{if◌then◌else◌}
 use Rattle.rules.specs.Endpoints.{is_idle}
 use Rattle.rules.specs.Saved.{state_place, record_room, record_at, state_in, head_in, endpoint_in, record_right}
 use Rattle.rules.specs.Commands.{in_use}

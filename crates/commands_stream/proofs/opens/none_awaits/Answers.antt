@@ -9,7 +9,7 @@ use lib.Dec.{eqb, lit<}
 use lib.ListN.{drop, get_or}
 use lib.Seq.{drop-drop, get_or-take, get_or-drop}
 use borrow.Author.Tests.{ne_eqb}
-use Rattle.rules.specs.Octets.{if◌then◌else◌}
+use Rattle.std.specs.Prelude.{if◌then◌else◌}
 use Rattle.rules.specs.Endpoints.{is_awaited, awaiting}
 use Rattle.rules.specs.Saved.{record_room, channel_in, endpoint_in, ends_in, head_in}
 use Rattle.commands_stream.proofs.opens.none_awaits.Goals as goal
