@@ -9,8 +9,8 @@ use lib.ListN.{drop}
 use lib.Dec.{eqb}
 use borrow.Author.Tests.{eq-eqb, ne_eqb, eqb-true, eqb-false}
 use Rattle.rules.specs.Octets.{member}
-use Rattle.rules.specs.Elements.{Item, whole, short, items, category_of, is_strange, item_code, judge, item_category, blamed, missing}
-use Rattle.rules.specs.Elements.{lacking, fault_or, fault_past, fault_in}
+use Rattle.rules.specs.Elements.{Item, whole, short, items, category_of, is_strange, item_code, judge, item_category, blamed}
+use Rattle.rules.specs.Elements.{missing, lacking, fault_or, fault_past, fault_in}
 use Rattle.rules.specs.declared.Rule.{Rule}
 use Rattle.rules.specs.declared.Rule.TheVariants.{Setting, Reconfiguring}
 use Rattle.rules.specs.declared.Fault.{Fault}
@@ -117,8 +117,9 @@ unfolding fault_or
 first_fault f later h = rw (ne_eqb f.code 0 h)
 
 -- a whole element, with the code of its first failure
-module _ (anew : Bool) (caps : List Item) (l : List ℕ) (at : ℕ) (m : Marks) (c n first : ℕ) (e : Whole c n first ≡ element_at l at)
-    (v : List ℕ) (p : v ≡ part first n l) (code : ℕ) (j : code ≡ item_code (command_rule anew) caps (seen_in m) (whole c v)) where
+module _ (anew : Bool) (caps : List Item) (l : List ℕ) (at : ℕ) (m : Marks) (c n first : ℕ)
+    (e : Whole c n first ≡ element_at l at) (v : List ℕ) (p : v ≡ part first n l) (code : ℕ)
+    (j : code ≡ item_code (command_rule anew) caps (seen_in m) (whole c v)) where
   walk_whole : walked_as
       (fault_or (record { category = c; code = code })
       (fault_past (command_rule anew) caps (c ∷ seen_in m) (items (drop (first + n) l))))
@@ -133,7 +134,8 @@ module _ (anew : Bool) (caps : List Item) (l : List ℕ) (at : ℕ) (m : Marks) 
       ∙ ap (λ x. walked_as x (marks_from l (first + n) (marked c first m))) (first_fault _ _ f)
       ∙ walk_whole
 
-  pub walk_on : code ≡ 0 → walk_of (command_rule anew) caps l (first + n) (marked c first m) ≡ walk_of (command_rule anew) caps l at m
+  pub walk_on : code ≡ 0
+      → walk_of (command_rule anew) caps l (first + n) (marked c first m) ≡ walk_of (command_rule anew) caps l at m
   unfolding walk_of fault_or
   walk_on z =
       let rest = items (drop (first + n) l) in

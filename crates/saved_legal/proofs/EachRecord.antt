@@ -14,8 +14,8 @@ use Rattle.std.specs.Prelude.{if◌then◌else◌}
 use Rattle.rules.specs.Book.{Entry, Book, media_type, entries_in, book_of}
 use Rattle.rules.specs.Endpoints.{is_reported, is_idle, is_awaited, channel_right, takes_delay, delay_right, keeps_nothing}
 use Rattle.rules.specs.Endpoints.{keeps_settings, legal_end, legal_ends, awaiting}
-use Rattle.rules.specs.Saved.{record_room, head_room, config_room, unused, channel_in, head_in, config_in, endpoint_in, record_right}
-use Rattle.rules.specs.Saved.{ends_in, records_right}
+use Rattle.rules.specs.Saved.{record_room, head_room, config_room, unused, channel_in, head_in, config_in, endpoint_in}
+use Rattle.rules.specs.Saved.{record_right, ends_in, records_right}
 use Rattle.rules.proofs.Tests.{and_l, and_r}
 use Rattle.rules.proofs.Places.{at_most_one}
 use Rattle.elements_reader.specs.Orders.{TransportFirst}
@@ -114,8 +114,8 @@ unfolding records_legal record_legal records_right ends_in legal_ends awaiting a
 first_legal n book k before l =
     let r = take record_room l in
     let rest = ends_in k (drop record_room l) in
-    ap (λ (x : ℕ). (record_right r && records_right k (drop record_room l)) && (legal_end n (endpoint_in r) && legal_ends book rest)
-    && leb x 1)
+    ap (λ (x : ℕ). (record_right r && records_right k (drop record_room l))
+    && (legal_end n (endpoint_in r) && legal_ends book rest) && leb x 1)
     (sym (add_assoc before (awaits_in (get_or r 2 0)) (awaiting rest)))
     ∙ pairwise (record_right r) (records_right k (drop record_room l)) (legal_end n (endpoint_in r)) (legal_ends book rest)
     (leb (before + awaits_in (get_or r 2 0) + awaiting rest) 1)
@@ -136,13 +136,14 @@ pub at_hand : (b : List ℕ) (at i : ℕ) (l p q : List ℕ) {t : Bool} → p �
 unfolding part
 at_hand b at i l p q e f g =
     g
-    ∙ ap₂ (λ (x y : List ℕ). record_legal (record { seid = record { 0 = get_or b at 0 }; kind = get_or b (at + 1) 0; caps = y }) x)
-    e f
+    ∙ ap₂
+    (λ (x y : List ℕ). record_legal (record { seid = record { 0 = get_or b at 0 }; kind = get_or b (at + 1) 0; caps = y }) x) e f
 
 module _ (n left : ℕ) (b : List ℕ) (at before i : ℕ) (l : List ℕ) (e : left ≡ suc n) where
   turn : legal_from b at left before i l
       ≡ record_legal (entry_at b at) (part (i * record_room) record_room l)
-      && legal_from b (at + 3 + get_or b (at + 2) 0) n (before + awaits_in (get_or (part (i * record_room) record_room l) 2 0)) (i + 1) l
+      && legal_from b (at + 3 + get_or b (at + 2) 0) n
+      (before + awaits_in (get_or (part (i * record_room) record_room l) 2 0)) (i + 1) l
   unfolding part
   turn =
       let r = take record_room (drop (i * record_room) l) in
@@ -153,7 +154,8 @@ module _ (n left : ℕ) (b : List ℕ) (at before i : ℕ) (l : List ℕ) (e : l
       ∙ ap (λ (x : List ℕ). record_legal (entry_at b at) r && records_legal rest n (before + awaits_in (get_or r 2 0)) x)
       (drop-drop record_room (i * record_room) l ∙ ap (λ (k : ℕ). drop k l) next)
 
-  pub turn_ends : record_legal (entry_at b at) (part (i * record_room) record_room l) ≡ false → legal_from b at left before i l ≡ false
+  pub turn_ends : record_legal (entry_at b at) (part (i * record_room) record_room l) ≡ false
+      → legal_from b at left before i l ≡ false
   turn_ends f = turn ∙ rw f
 
   pub turn_goes_on : (before' : ℕ) → record_legal (entry_at b at) (part (i * record_room) record_room l) ≡ true

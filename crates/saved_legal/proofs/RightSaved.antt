@@ -11,8 +11,8 @@ use borrow.Author.Tests.{leb-true, le-leb, lt-leb, eqb-true, eq-eqb, ne_eqb}
 use Rattle.rules.specs.Octets.{octets_in}
 use Rattle.rules.specs.Book.{Book, book_number, book_of}
 use Rattle.rules.specs.Endpoints.{legal_ends, awaiting, legal_gathering, legal}
-use Rattle.rules.specs.Saved.{records_place, record_room, area_for, count_in, link_of, records_of, ends_in, records_right, gathering_in}
-use Rattle.rules.specs.Saved.{gathering_octets_right, connection_in, saved_right}
+use Rattle.rules.specs.Saved.{records_place, record_room, area_for, count_in, link_of, records_of, ends_in, records_right}
+use Rattle.rules.specs.Saved.{gathering_in, gathering_octets_right, connection_in, saved_right}
 use Rattle.rules.proofs.Tests.{and_l, and_r, and-false}
 use Rattle.rules.proofs.SavedReads.{octets_drop, gathering_room_lem, records_room}
 use Rattle.packets_next.specs.Rooms.{RoomRight}

@@ -4,7 +4,8 @@ use Rattle.rules.specs.Octets.{same_octets}
 use Rattle.rules.specs.Book.{Entry, Book}
 use Rattle.rules.specs.Endpoints.{idle_head, is_awaited, legal_end, legal_ends, awaiting}
 use Rattle.rules.specs.Saved.{head_room, config_room, channel_in, endpoint_in, record_right, head_octets, ends_in, records_right}
-use Rattle.rules.specs.Saved.{state_place, channel_place, delay_mark_place, delay_high_place, delay_low_place, config_length_place}
+use Rattle.rules.specs.Saved.{state_place, channel_place, delay_mark_place, delay_high_place, delay_low_place}
+use Rattle.rules.specs.Saved.{config_length_place}
 use Rattle.rules.specs.declared.OurSeid.{OurSeid}
 
 -- the channels that a record awaits, by its octet for the channel

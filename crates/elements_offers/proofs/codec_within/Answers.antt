@@ -58,7 +58,8 @@ module _ (v w : List ℕ) (same : length v ≡ length w) (long : 2 ≤ length v)
   other_codec e f =
       rw (by_octets v w same long, eq-eqb (get_or v 0 0 / 16) (get_or w 0 0 / 16) e, ne_eqb (get_or v 1 0) (get_or w 1 0) f)
 
-  same_codec : get_or v 0 0 / 16 ≡ get_or w 0 0 / 16 → get_or v 1 0 ≡ get_or w 1 0 → codec_within v w ≡ bits_within (drop 2 v) (drop 2 w)
+  same_codec : get_or v 0 0 / 16 ≡ get_or w 0 0 / 16 → get_or v 1 0 ≡ get_or w 1 0
+      → codec_within v w ≡ bits_within (drop 2 v) (drop 2 w)
   same_codec e f =
       rw (by_octets v w same long, eq-eqb (get_or v 0 0 / 16) (get_or w 0 0 / 16) e, eq-eqb (get_or v 1 0) (get_or w 1 0) f)
 

@@ -15,7 +15,8 @@ use Rattle.elements_storable.proofs.after_codec.Goals as goal
 pub returns-then-category-ne8 : goal.returns-then-category-ne8
 unfolding followers member
 returns-then-category-ne8 c =
-    left_other false (setting_test (items c.args.caps.now)) 7 _ _ _ _ _ c.in-Whole.ensures (rw (ne_eqb _ 8 c.if-category-ne8.true))
+    let test = setting_test (items c.args.caps.now) in
+    left_other false test 7 _ _ _ _ _ c.in-Whole.ensures (rw (ne_eqb _ 8 c.if-category-ne8.true))
 
 -- delay reporting with a value
 pub returns-then-length-ne0 : goal.returns-then-length-ne0

@@ -20,7 +20,8 @@ returns-in_default c =
 pub returns-then-category-ne7 : goal.returns-then-category-ne7
 unfolding followers member
 returns-then-category-ne7 c =
-    left_other false (setting_test (items c.args.caps.now)) 4 _ _ _ _ _ c.in-Whole.ensures (rw (ne_eqb _ 7 c.if-category-ne7.true))
+    let test = setting_test (items c.args.caps.now) in
+    left_other false test 4 _ _ _ _ _ c.in-Whole.ensures (rw (ne_eqb _ 7 c.if-category-ne7.true))
 
 pub codec_storable-requires : goal.codec_storable-requires
 codec_storable-requires c =
@@ -30,4 +31,5 @@ codec_storable-requires c =
 pub returns : goal.returns
 unfolding followers member
 returns c =
-    c.codec_storable.ensures ∙ left_next false (setting_test (items c.args.caps.now)) 4 _ _ _ _ _ c.in-Whole.ensures 7 c.if-category-ne7.false refl
+    let test = setting_test (items c.args.caps.now) in
+    c.codec_storable.ensures ∙ left_next false test 4 _ _ _ _ _ c.in-Whole.ensures 7 c.if-category-ne7.false refl

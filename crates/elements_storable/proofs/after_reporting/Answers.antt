@@ -26,7 +26,8 @@ codec_storable-requires c =
 pub returns-then-category-eq7 : goal.returns-then-category-eq7
 unfolding followers member
 returns-then-category-eq7 c =
-    c.codec_storable.ensures ∙ left_next false (setting_test (items c.args.caps.now)) 2 _ _ _ _ _ c.in-Whole.ensures 7 c.if-category-eq7.true refl
+    let test = setting_test (items c.args.caps.now) in
+    c.codec_storable.ensures ∙ left_next false test 2 _ _ _ _ _ c.in-Whole.ensures 7 c.if-category-eq7.true refl
 
 -- another category
 pub returns-then-category-ne4 : goal.returns-then-category-ne4

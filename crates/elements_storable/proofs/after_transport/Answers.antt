@@ -26,14 +26,16 @@ codec_storable-requires c =
 pub returns-then-category-eq7 : goal.returns-then-category-eq7
 unfolding followers member
 returns-then-category-eq7 c =
-    c.codec_storable.ensures ∙ left_next false (setting_test (items c.args.caps.now)) 1 _ _ _ _ _ c.in-Whole.ensures 7 c.if-category-eq7.true refl
+    let test = setting_test (items c.args.caps.now) in
+    c.codec_storable.ensures ∙ left_next false test 1 _ _ _ _ _ c.in-Whole.ensures 7 c.if-category-eq7.true refl
 
 -- neither codec nor reporting
 pub returns-then-category-ne2 : goal.returns-then-category-ne2
 unfolding followers member
 returns-then-category-ne2 c =
+    let test = setting_test (items c.args.caps.now) in
     c.after_reporting.ensures
-    ∙ left_alike false (setting_test (items c.args.caps.now)) 2 1 _ _ _ _ _ c.in-Whole.ensures (rw (ne_eqb _ 2 c.if-category-ne2.true))
+    ∙ left_alike false test 2 1 _ _ _ _ _ c.in-Whole.ensures (rw (ne_eqb _ 2 c.if-category-ne2.true))
 
 -- reporting with a value
 pub returns-then-length-ne0 : goal.returns-then-length-ne0

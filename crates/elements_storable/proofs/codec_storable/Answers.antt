@@ -26,7 +26,8 @@ returns-then-list-first-ne0 c =
     let caps = items c.args.caps.now in
     let v = take c.args.size (drop c.args.first c.args.list.now) in
     let long = part_length c.args.list.now c.args.first c.args.size c.requires.1 in
-    rw (nibble_there caps v c.args.size long (λ e. omega (arith, part_first c.args.list.now c.args.first c.args.size (omega arith))))
+    rw (nibble_there caps v c.args.size long
+    (λ e. omega (arith, part_first c.args.list.now c.args.first c.args.size (omega arith))))
 
 pub returns-then-not-is_offered : goal.returns-then-not-is_offered
 returns-then-not-is_offered c =

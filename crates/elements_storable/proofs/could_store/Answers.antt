@@ -25,7 +25,8 @@ returns-in_default c =
 pub returns-then-category-ne1 : goal.returns-then-category-ne1
 unfolding followers member
 returns-then-category-ne1 c =
-    left_other false (setting_test (items c.args.caps.now)) 0 _ _ _ _ _ c.in-Whole.ensures (rw (ne_eqb _ 1 c.if-category-ne1.true))
+    let test = setting_test (items c.args.caps.now) in
+    left_other false test 0 _ _ _ _ _ c.in-Whole.ensures (rw (ne_eqb _ 1 c.if-category-ne1.true))
     ∙ sym (could_in_order (items c.args.caps.now) _)
 
 -- a media transport with a value

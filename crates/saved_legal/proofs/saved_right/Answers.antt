@@ -58,8 +58,9 @@ link_of-requires c =
 
 pub room_legal-requires : goal.room_legal-requires
 room_legal-requires c =
+    let room = long (goal.at.room_legal-requires c).Else-saved-entries in
     subst (λ (x : List ℕ). length x ≡ gathering_room) (sym c.link_of.ensures)
-    (gathering_room_lem (length (book_of c.args.book.now)) c.args.saved.now (long (goal.at.room_legal-requires c).Else-saved-entries))
+    (gathering_room_lem (length (book_of c.args.book.now)) c.args.saved.now room)
 
 pub returns-then-not-room_legal : goal.returns-then-not-room_legal
 returns-then-not-room_legal c =
@@ -72,11 +73,10 @@ records_of-requires c =
     omega (arith, c.if-saved-entries.false)
 
 pub records_legal-requires : goal.records_legal-requires
-records_legal-requires c = (
-  c.requires,
-  subst (λ (x : List ℕ). length (book_of c.args.book.now) * record_room ≤ length x) (sym c.records_of.ensures)
-      (records_room (length (book_of c.args.book.now)) c.args.saved.now (long (goal.at.records_legal-requires c).Else-saved-entries)),
-)
+records_legal-requires c =
+    let n = length (book_of c.args.book.now) in
+    let room = records_room n c.args.saved.now (long (goal.at.records_legal-requires c).Else-saved-entries) in
+    (c.requires, subst (λ (x : List ℕ). n * record_room ≤ length x) (sym c.records_of.ensures) room)
 
 pub returns : goal.returns
 returns c =

@@ -126,12 +126,15 @@ rooms_at c =
 
 abbrev WrittenAt : After-put → Type 0
 WrittenAt c =
-    c.put.new.dst ≡ patch c.args.to (c.args.category ∷ size_at c.args.list.now c.args.place ∷ value_at c.args.list.now c.args.place) c.args.area.now
+    c.put.new.dst
+    ≡ patch c.args.to
+    (c.args.category ∷ size_at c.args.list.now c.args.place ∷ value_at c.args.list.now c.args.place) c.args.area.now
 
 written_at : (c : After-put) → WrittenAt c
 written_at c =
     first c.args.category c.args.list.now c.args.place c.args.to c.args.area.now
-    (rooms c.args.category c.args.list.now c.args.place c.args.to c.args.area.now c.if-place-eq0.false c.requires) c.part.result.now c.part.ensures c.put.ensures
+    (rooms c.args.category c.args.list.now c.args.place c.args.to c.args.area.now c.if-place-eq0.false c.requires)
+    c.part.result.now c.part.ensures c.put.ensures
 
 written_length : (c : After-put) → length c.put.new.dst ≡ length c.args.area.now
 written_length c = c.put.auto.dst ∙ simp length-set

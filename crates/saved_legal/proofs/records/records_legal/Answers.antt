@@ -11,16 +11,18 @@ use Rattle.octets.proofs.Patches.{part_length}
 use Rattle.book.proofs.Entries.{RightEntry, RightEntries, first_entry, other_entries, right_head}
 use Rattle.book.proofs.Found.{all_counted}
 use Rattle.saved_legal.specs.Legal.{awaits_in, record_legal}
-use Rattle.saved_legal.proofs.EachRecord.{entry_first, awaits_few, entry_at, at_hand}
-use Rattle.saved_legal.proofs.EachRecord.{turn_ends, turn_goes_on, all_left, none_left}
+use Rattle.saved_legal.proofs.EachRecord.{entry_first, awaits_few, entry_at, at_hand, turn_ends, turn_goes_on, all_left}
+use Rattle.saved_legal.proofs.EachRecord.{none_left}
 use Rattle.saved_legal.proofs.records.records_legal.Goals as goal
-use Rattle.saved_legal.proofs.records.records_legal.Goals.{After-awaits-awaited, After-part-slot, After-record_legal, In-loop-index}
+use Rattle.saved_legal.proofs.records.records_legal.Goals.{After-awaits-awaited, After-part-slot, After-record_legal}
+use Rattle.saved_legal.proofs.records.records_legal.Goals.{In-loop-index}
 
 -- the entry at hand, and room for its record
 entry : (c : In-loop-index)
     → RightEntry c.args.book.now c.loop-index.at
 entry c =
-    first_entry (c.count-entries.result - (c.loop-index.index + 1)) (c.count-entries.result - c.loop-index.index) _ c.loop-index.at (omega arith) c.loop-index.invariant.2
+    first_entry (c.count-entries.result - (c.loop-index.index + 1)) (c.count-entries.result - c.loop-index.index) _
+    c.loop-index.at (omega arith) c.loop-index.invariant.2
 
 room : (c : In-loop-index)
     → c.loop-index.index * record_room + record_room ≤ length c.args.records.now
@@ -31,7 +33,8 @@ room c =
 slot_long : (c : After-part-slot) → length c.part-slot.result.now ≡ record_room
 slot_long c =
     subst (λ (x : List ℕ). length x ≡ record_room) (sym c.part-slot.ensures)
-    (part_length (c.loop-index.index * record_room) record_room c.args.records.now (omega (arith, c.loop-index-test.true, c.count-entries.ensures, c.requires.1)))
+    (part_length (c.loop-index.index * record_room) record_room c.args.records.now
+    (omega (arith, c.loop-index-test.true, c.count-entries.ensures, c.requires.1)))
 
 -- what the test of a record says
 judged : (c : After-record_legal)
@@ -53,7 +56,8 @@ pub loop-index-init : goal.loop-index-init
 loop-index-init c = (
   omega arith,
   omega arith,
-  subst (λ n. RightEntries n c.args.book.now 6) (all_counted c.args.book.now _ c.count-entries.ensures) (right_head c.args.book.now c.requires.0).entries,
+  subst (λ n. RightEntries n c.args.book.now 6) (all_counted c.args.book.now _ c.count-entries.ensures)
+      (right_head c.args.book.now c.requires.0).entries,
   all_left c.args.book.now c.args.records.now _ c.count-entries.ensures,
 )
 
@@ -99,13 +103,16 @@ part-requires c =
 
 pub record_legal-requires : goal.record_legal-requires
 record_legal-requires c =
-    (subst TransportFirst (sym c.part.ensures) (entry_first c.args.book.now c.loop-index.at (entry (goal.at.record_legal-requires c).In-loop-index)), slot_long (goal.at.record_legal-requires c).After-part-slot)
+    let r = entry (goal.at.record_legal-requires c).In-loop-index in
+    let long = slot_long (goal.at.record_legal-requires c).After-part-slot in
+    (subst TransportFirst (sym c.part.ensures) (entry_first c.args.book.now c.loop-index.at r), long)
 
 pub returns-then-not-record_legal : goal.returns-then-not-record_legal
 returns-then-not-record_legal c =
+    let illegal = sym (judged (goal.at.returns-then-not-record_legal c).After-record_legal) ∙ c.if-not-record_legal.true in
     sym (c.loop-index.invariant.3
-    ∙ turn_ends (c.count-entries.result - (c.loop-index.index + 1)) (c.count-entries.result - c.loop-index.index) c.args.book.now c.loop-index.at c.loop-index.awaited c.loop-index.index
-    c.args.records.now (omega arith) (sym (judged (goal.at.returns-then-not-record_legal c).After-record_legal) ∙ c.if-not-record_legal.true))
+    ∙ turn_ends (c.count-entries.result - (c.loop-index.index + 1)) (c.count-entries.result - c.loop-index.index) c.args.book.now
+    c.loop-index.at c.loop-index.awaited c.loop-index.index c.args.records.now (omega arith) illegal)
 
 pub bounds-slot-2 : goal.bounds-slot-2
 bounds-slot-2 c =
@@ -121,13 +128,15 @@ overflow_add-at-in-loop-index c =
 
 pub loop-index-preserved : goal.loop-index-preserved
 loop-index-preserved c =
-    let rest = c.count-entries.result - (c.loop-index.index + 1) in (
+    let rest = c.count-entries.result - (c.loop-index.index + 1) in
+    let legal = sym (judged (goal.at.loop-index-preserved c).After-record_legal) ∙ c.if-not-record_legal.false in (
       omega arith,
       omega (arith, few (goal.at.loop-index-preserved c).After-awaits-awaited),
-      other_entries rest (c.count-entries.result - c.loop-index.index) c.args.book.now c.loop-index.at (omega arith) c.loop-index.invariant.2,
+      other_entries rest (c.count-entries.result - c.loop-index.index) c.args.book.now c.loop-index.at (omega arith)
+          c.loop-index.invariant.2,
       c.loop-index.invariant.3
-          ∙ turn_goes_on rest (c.count-entries.result - c.loop-index.index) c.args.book.now c.loop-index.at c.loop-index.awaited c.loop-index.index c.args.records.now (omega arith)
-          (c.loop-index.awaited + c.awaits-awaited.result) (sym (judged (goal.at.loop-index-preserved c).After-record_legal) ∙ c.if-not-record_legal.false)
+          ∙ turn_goes_on rest (c.count-entries.result - c.loop-index.index) c.args.book.now c.loop-index.at c.loop-index.awaited
+          c.loop-index.index c.args.records.now (omega arith) (c.loop-index.awaited + c.awaits-awaited.result) legal
           (ap (λ (n : ℕ). c.loop-index.awaited + n)
           (c.awaits-awaited.ensures ∙ ap (λ (x : List ℕ). awaits_in (get_or x 2 0)) c.part-slot.ensures)),
     )
@@ -135,5 +144,5 @@ loop-index-preserved c =
 pub returns : goal.returns
 returns c =
     sym (c.loop-index.invariant.3
-    ∙ none_left c.args.book.now c.loop-index.at (c.count-entries.result - c.loop-index.index) c.loop-index.awaited c.loop-index.index c.args.records.now
-    (omega arith))
+    ∙ none_left c.args.book.now c.loop-index.at (c.count-entries.result - c.loop-index.index) c.loop-index.awaited
+    c.loop-index.index c.args.records.now (omega arith))
