@@ -11,17 +11,11 @@ use lib.ListN.{length, take, drop, get_or, length-drop}
 use lib.Seq.{drop-drop, get_or-drop}
 use lib.Dec.{leb, eqb}
 use borrow.Author.Tests.{leb-true, eqb-true, eqb-false, eq-eqb, ne_eqb}
-<<<<<<< HEAD
 use Rattle.rules.specs.Octets.{member, some_of, same_octets}
-use Rattle.std.specs.Prelude.{if◌then◌else◌, if◌then◌else◌}
-use Rattle.rules.specs.Elements.{Item, whole, short, headed, items_past, items, category_of, is_strange, fixed, item_code, is_of, has}
-use Rattle.rules.specs.Elements.{item_category, blamed, fault_past, fault_in, offerable, pick, picks, stored, restored, could_store}
-=======
-use Rattle.rules.specs.Octets.{member, some_of, same_octets}
+use Rattle.std.specs.Prelude.{if◌then◌else◌}
 use Rattle.rules.specs.Elements.{Item, whole, short, headed, items_past, items, category_of, is_strange, fixed, item_code, is_of}
 use Rattle.rules.specs.Elements.{has, item_category, blamed, fault_past, fault_in, offerable, pick, picks, stored, restored}
 use Rattle.rules.specs.Elements.{could_store}
->>>>>>> 959b61c935a6582d676c3314f4250f6dfa305bf8
 use Rattle.rules.specs.declared.Rule.{Rule}
 use Rattle.rules.specs.declared.Rule.TheVariants.{Setting, Reconfiguring}
 use Rattle.rules.proofs.Tests.{Told?, passed, failed, told, clash, and_l, or_l, or_r}
