@@ -5,7 +5,6 @@ use mathlib.Core.Path.{◌≡◌, sym, ◌∙◌}
 use mathlib.Core.List.{List}
 use mathlib.Core.Bool.{Bool, true, false, not}
 use lib.ListN.{take, drop, get_or}
-use borrow.Author.Rules.{rules}
 use borrow.Author.Tests.{lt-ltb, le-ltb, le-leb, lt-leb}
 use Rattle.rules.specs.Octets.{between, same_octets}
 use Rattle.std.specs.Prelude.{if◌then◌else◌}
@@ -16,8 +15,8 @@ use Rattle.book_check.proofs.check.Goals as goal
 use Rattle.book_check.proofs.check.Goals.{Else-not-same-2}
 
 -- a part of the book was compared with a word
-compared : (from size : ℕ) (b l word : List ℕ) (r t : Bool) → l ≡ part from size b → r ≡ same_octets l word → not r ≡ t
-    → not (same_octets (take size (drop from b)) word) ≡ t
+compared : (from size : ℕ) (b l word : List ℕ) (r t : Bool) → l ≡ part from size b → r ≡ same_octets l word → r ≡ t
+    → same_octets (take size (drop from b)) word ≡ t
 unfolding part
 compared from size b l word r t e f g = cc
 
@@ -32,23 +31,17 @@ too_many n h = simp (le-leb 1 n (omega arith), lt-leb n 16 h)
 counted : (n : ℕ) → (n ≡ 0 → ⊥) → n ≤ 16 → between 1 16 n ≡ true
 counted n h k = between_both 1 16 n (omega (arith, h)) k
 
--- ?? slice-aggregate-same : slice-aggregate-same
-slice-aggregate-same : tie.Need-slice-aggregate-same
-slice-aggregate-same c = search rules
-
--- ?? slice-aggregate-same-2 : slice-aggregate-same-2
-slice-aggregate-same-2 : tie.Need-slice-aggregate-same-2
-slice-aggregate-same-2 c = search rules
-
 -- the word and the version were passed
 named : (c : Else-not-same-2)
-    → book_number c.args.book.now ≡ (if not (between 1 16 (get_or c.args.book.now 5 0)) then 4 else entries_number (get_or c.args.book.now 5 0) 0 (drop 6 c.args.book.now))
+    → book_number c.args.book.now
+    ≡ (if not (between 1 16 (get_or c.args.book.now 5 0)) then 4
+    else entries_number (get_or c.args.book.now 5 0) 0 (drop 6 c.args.book.now))
 unfolding book_number
 named c =
     simp (
       le-ltb _ _ c.if-book-lt6.false,
-      compared 0 3 _ _ _ _ _ c.part.ensures c.same.ensures c.if-not-same.false-raw,
-      compared 3 2 _ _ _ _ _ c.part-2.ensures c.same-2.ensures c.if-not-same-2.false-raw,
+      compared 0 3 _ _ _ _ _ c.part.ensures c.same.ensures c.if-not-same.false,
+      compared 3 2 _ _ _ _ _ c.part-2.ensures c.same-2.ensures c.if-not-same-2.false,
     )
 
 pub returns-then-book-lt6 : goal.returns-then-book-lt6
@@ -61,7 +54,7 @@ unfolding book_number
 returns-then-not-same c =
     simp (
       le-ltb _ _ c.if-book-lt6.false,
-      compared 0 3 _ _ _ _ _ c.part.ensures c.same.ensures c.if-not-same.true-raw,
+      compared 0 3 _ _ _ _ _ c.part.ensures c.same.ensures c.if-not-same.true,
     )
 
 pub returns-then-not-same-2 : goal.returns-then-not-same-2
@@ -69,8 +62,8 @@ unfolding book_number
 returns-then-not-same-2 c =
     simp (
       le-ltb _ _ c.if-book-lt6.false,
-      compared 0 3 _ _ _ _ _ c.part.ensures c.same.ensures c.if-not-same.false-raw,
-      compared 3 2 _ _ _ _ _ c.part-2.ensures c.same-2.ensures c.if-not-same-2.true-raw,
+      compared 0 3 _ _ _ _ _ c.part.ensures c.same.ensures c.if-not-same.false,
+      compared 3 2 _ _ _ _ _ c.part-2.ensures c.same-2.ensures c.if-not-same-2.true,
     )
 
 pub returns-then-book-eq0 : goal.returns-then-book-eq0
@@ -79,8 +72,10 @@ returns-then-book-eq0 c =
 
 pub returns-then-book-gt16 : goal.returns-then-book-gt16
 returns-then-book-gt16 c =
-    sym (named (goal.at.returns-then-book-gt16 c).Else-not-same-2 ∙ simp (too_many (get_or c.args.book.now 5 0) (omega arith)))
+    sym (named (goal.at.returns-then-book-gt16 c).Else-not-same-2
+    ∙ simp (too_many (get_or c.args.book.now 5 0) (omega arith)))
 
 pub returns : goal.returns
 returns c =
-    c.entries_number.ensures ∙ sym (named (goal.at.returns c).Else-not-same-2 ∙ simp (counted _ c.if-book-eq0.false c.if-book-gt16.false))
+    c.entries_number.ensures
+    ∙ sym (named (goal.at.returns c).Else-not-same-2 ∙ simp (counted _ c.if-book-eq0.false c.if-book-gt16.false))

@@ -9,16 +9,17 @@ use Rattle.book_check.proofs.entries_number.Goals as goal
 use Rattle.book_check.proofs.entries_number.Goals.{After-loop-left, Else-number-ne0}
 
 -- the entry that was passed
-passed : (c : Else-number-ne0)
-    → RightEntry c.args.book.now c.loop-left.at
+passed : (c : Else-number-ne0) → RightEntry c.args.book.now c.loop-left.at
 passed c =
     right_entry c.loop-left.before _ c.loop-left.at (sym c.entry_number-number.ensures ∙ c.if-number-ne0.false)
 
 -- all entries were passed
-all-passed : (c : After-loop-left)
-    → entries_number (get_or c.args.book.now 5 0) 0 (drop 6 c.args.book.now) ≡ entries_number 0 c.loop-left.before (drop c.loop-left.at c.args.book.now)
-all-passed c =
-    c.loop-left.invariant.1 ∙ ap (λ n. entries_number n c.loop-left.before (drop c.loop-left.at c.args.book.now)) c.loop-left-test.false
+all_passed : (c : After-loop-left)
+    → entries_number (get_or c.args.book.now 5 0) 0 (drop 6 c.args.book.now)
+    ≡ entries_number 0 c.loop-left.before (drop c.loop-left.at c.args.book.now)
+all_passed c =
+    c.loop-left.invariant.1
+    ∙ ap (λ n. entries_number n c.loop-left.before (drop c.loop-left.at c.args.book.now)) c.loop-left-test.false
 
 pub returns-then-number-ne0 : goal.returns-then-number-ne0
 returns-then-number-ne0 c =
@@ -53,8 +54,7 @@ overflow_add-at-in-loop-left-2 c =
 
 pub loop-left-preserved : goal.loop-left-preserved
 loop-left-preserved c =
-    let r = passed (goal.at.loop-left-preserved c).Else-number-ne0 in
-    (
+    let r = passed (goal.at.loop-left-preserved c).Else-number-ne0 in (
       r.inside,
       c.loop-left.invariant.1
           ∙ entries_go_on (c.loop-left.left - 1) c.loop-left.left c.loop-left.before c.args.book.now c.loop-left.at (omega arith)
@@ -63,8 +63,10 @@ loop-left-preserved c =
 
 pub returns-then-at-book : goal.returns-then-at-book
 returns-then-at-book c =
-    sym (all-passed (goal.at.returns-then-at-book c).After-loop-left ∙ none_left c.loop-left.before _ c.loop-left.at c.if-at-book.true)
+    sym (all_passed (goal.at.returns-then-at-book c).After-loop-left
+    ∙ none_left c.loop-left.before _ c.loop-left.at c.if-at-book.true)
 
 pub returns-else-at-book : goal.returns-else-at-book
 returns-else-at-book c =
-    sym (all-passed (goal.at.returns-else-at-book c).After-loop-left ∙ some_left c.loop-left.before _ c.loop-left.at (omega (arith, c.if-at-book.false)))
+    sym (all_passed (goal.at.returns-else-at-book c).After-loop-left
+    ∙ some_left c.loop-left.before _ c.loop-left.at (omega (arith, c.if-at-book.false)))

@@ -1,12 +1,11 @@
 -- `entry_number` meets its contract: each return is the chain of tests of `entry_number` as far as it was passed, a law of
 -- `OneEntry`.
-use Prim.Native.Nat.{ℕ, ◌+◌, ◌-◌, ◌/◌}
+use Prim.Native.Nat.{ℕ, ◌+◌}
 use native.Mathlib.Omega.{arith}
 use mathlib.Core.Path.{◌≡◌, ◌∙◌}
 use mathlib.Core.List.{List}
 use mathlib.Core.Bool.{Bool, true, false, not}
-use lib.ListN.{length, take, drop, get_or}
-use lib.Dec.{ltb}
+use lib.ListN.{take, drop}
 use borrow.Author.Tests.{lt-ltb, le-ltb}
 use Rattle.std.specs.Prelude.{if◌then◌else◌}
 use Rattle.rules.specs.Elements.{items}
@@ -15,7 +14,7 @@ use Rattle.octets.specs.Patch.{part}
 use Rattle.book.specs.Entries.{entry_number}
 use Rattle.book_check.proofs.OneEntry.{entry_cut, seid_wrong, kind_wrong, headed}
 use Rattle.book_check.proofs.entry_number.Goals as goal
-use Rattle.book_check.proofs.entry_number.Goals.{After-list_right, Else-kind-gt2}
+use Rattle.book_check.proofs.entry_number.Goals.{After-list_right}
 
 -- the list as it is lent to its check, and what that says
 list_told : (media from size : ℕ) (b l : List ℕ) (r t : Bool) → l ≡ part from size b → r ≡ list_right media (items l) → r ≡ t
@@ -23,27 +22,16 @@ list_told : (media from size : ℕ) (b l : List ℕ) (r t : Bool) → l ≡ part
 unfolding part
 list_told media from size b l r t e f g = cc
 
--- SEID and kind were passed
-passed : (c : Else-kind-gt2)
-    → let size = get_or c.args.book.now (c.args.at + 2) 0 in
-    (if ltb 64 size then 7
-    else if ltb (length c.args.book.now - (c.args.at + 3)) size then 1
-    else if not (list_right (get_or c.args.book.now (c.args.at + 1) 0 / 16) (items (take size (drop (c.args.at + 3) c.args.book.now)))) then 7
-    else 0)
-    ≡ entry_number c.args.before c.args.book.now c.args.at
-passed c =
-    headed c.args.before c.args.book.now c.args.at (omega arith) (omega arith) (omega arith) (omega arith) (omega arith)
-
 -- the list was told right or wrong
-told-as : (c : After-list_right) (t : Bool) → c.??After_list_right.List-right.result ≡ t
+told_as : (c : After-list_right) (t : Bool) → c.list_right.result ≡ t
     → (if not t then 7 else 0) ≡ entry_number c.args.before c.args.book.now c.args.at
-told-as c t e =
+told_as c t e =
     (simp (
       le-ltb _ _ c.if-size-gt64.false,
       le-ltb _ _ c.if-book-list.false,
-      list_told _ _ _ _ _ _ _ c.part.ensures c.??After_list_right.List-right.ensures e,
+      list_told _ _ _ _ _ _ _ c.part.ensures c.list_right.ensures e,
     ))
-    ∙ passed c.before.before.before.before.before
+    ∙ headed c.args.before c.args.book.now c.args.at (omega arith) (omega arith) (omega arith) (omega arith) (omega arith)
 
 pub returns-then-book-at-lt3 : goal.returns-then-book-at-lt3
 returns-then-book-at-lt3 c =
@@ -71,16 +59,18 @@ overflow_cast-size c =
 
 pub returns-then-size-gt64 : goal.returns-then-size-gt64
 returns-then-size-gt64 c =
-    (simp (lt-ltb _ _ c.if-size-gt64.true)) ∙ passed (goal.at.returns-then-size-gt64 c).Else-kind-gt2
+    (simp (lt-ltb _ _ c.if-size-gt64.true))
+    ∙ headed c.args.before c.args.book.now c.args.at (omega arith) (omega arith) (omega arith) (omega arith) (omega arith)
 
 pub returns-then-book-list : goal.returns-then-book-list
 returns-then-book-list c =
-    (simp (le-ltb _ _ c.if-size-gt64.false, lt-ltb _ _ c.if-book-list.true)) ∙ passed (goal.at.returns-then-book-list c).Else-kind-gt2
+    (simp (le-ltb _ _ c.if-size-gt64.false, lt-ltb _ _ c.if-book-list.true))
+    ∙ headed c.args.before c.args.book.now c.args.at (omega arith) (omega arith) (omega arith) (omega arith) (omega arith)
 
 pub returns-then-list_right : goal.returns-then-list_right
 returns-then-list_right c =
-    told-as (goal.at.returns-then-list_right c).After-list_right true c.if-list_right.true
+    told_as (goal.at.returns-then-list_right c).After-list_right true c.if-list_right.true
 
 pub returns-else-list_right : goal.returns-else-list_right
 returns-else-list_right c =
-    told-as (goal.at.returns-else-list_right c).After-list_right false c.if-list_right.false
+    told_as (goal.at.returns-else-list_right c).After-list_right false c.if-list_right.false
