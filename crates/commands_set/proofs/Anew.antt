@@ -127,7 +127,8 @@ module _ {book records p reply : List ℕ} {at : Place} (call : Named Reconfigur
         head = loads;
         told = (stands call).told;
         could =
-            subst (λ (l : List ℕ). could_store (items offers) l ≡ true) config_here (keeps_config (entry_in book p at) it settings);
+            subst (λ (l : List ℕ). could_store (items offers) l ≡ true) config_here
+            (keeps_config (entry_in book p at) it settings);
         few = few call;
         clean = e;
       }
@@ -142,7 +143,8 @@ module _ {book records p reply : List ℕ} {at : Place} (call : Named Reconfigur
   unfolding reconfigure_at check_of
   checked e =
       let caps = items (take at.size (drop at.from book)) in
-      fault_answered Reconfigure (fault_in Reconfiguring caps (items (drop 1 p))) (marks_from p 1 no_marks) (ends_of book records) _ e
+      fault_answered Reconfigure (fault_in Reconfiguring caps (items (drop 1 p))) (marks_from p 1 no_marks)
+      (ends_of book records) _ e
 
   pub fault_refused : {f : Fault} → Finds (Failed f) → {said : Said} {reply' : List ℕ}
       → (said ≡ said_of (reject (f.category ∷ f.code ∷ []))) × (reply' ≡ front (f.category ∷ f.code ∷ []) reply)

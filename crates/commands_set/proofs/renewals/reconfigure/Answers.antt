@@ -35,10 +35,6 @@ unfolding part
 check-walked-requires c =
     (subst TransportFirst (sym c.part.ensures) (listed c.requires), le_trans c.requires.serves.short (lit≤ tt))
 
-pub rejected_element-requires : goal.rejected_element-requires
-rejected_element-requires c =
-    le_trans (lit≤ tt) c.requires.serves.room
-
 pub get-h-requires : goal.get-h-requires
 get-h-requires c =
     (stands c.requires).inside

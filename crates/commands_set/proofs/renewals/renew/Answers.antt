@@ -8,17 +8,17 @@ use Rattle.elements.specs.Marks.{no_marks, marks_from}
 use Rattle.saved.specs.Records.{config_at}
 use Rattle.commands_set.proofs.Anew.{renew_reads, copy_fits, copied, old_short, renew_keeps, renew_writes}
 use Rattle.commands_set.proofs.renewals.renew.Goals as goal
-use Rattle.commands_set.proofs.renewals.renew.Goals.{After-copy-2-1, After-copy-3-1, After-places-left}
+use Rattle.commands_set.proofs.renewals.renew.Goals.{After-put, After-places-left}
 
 -- the copy is as long as it was before, and has room for what is stored
-copy-room : (c : After-copy-2-1) → length c.config-stored.result.now ≤ length c.put.new.dst
-copy-room c =
+copy_room : (c : After-put) → length c.config-stored.result.now ≤ length c.put.new.dst
+copy_room c =
     omega (arith, copy_fits c.requires c.config-stored.ensures, c.put.auto)
 
 -- what is lent of it is what is stored
-old-same : (c : After-copy-3-1)
+old_same : (c : After-put)
     → take (length c.config-stored.result.now) c.put.new.dst ≡ config_at c.args.index c.args.records.now
-old-same c =
+old_same c =
     copied c.requires c.config-stored.ensures _ refl c.put.ensures
 
 -- the marks of what is stored
@@ -36,21 +36,22 @@ put-requires c =
 
 pub slice_bounds-copy-end : goal.slice_bounds-copy-end
 slice_bounds-copy-end c =
-    copy-room (goal.at.slice_bounds-copy-end c).After-copy-2-1
+    copy_room (goal.at.slice_bounds-copy-end c).After-put
 
 pub slice_bounds-old-end : goal.slice_bounds-old-end
 slice_bounds-old-end c =
-    sym (length-take-le _ _ (copy-room (goal.at.slice_bounds-old-end c).After-copy-2-1))
+    sym (length-take-le _ _ (copy_room (goal.at.slice_bounds-old-end c).After-put))
 
 pub places-left-requires : goal.places-left-requires
 places-left-requires c =
-    old_short c.requires (old-same (goal.at.places-left-requires c).After-copy-3-1)
+    old_short c.requires (old_same (goal.at.places-left-requires c).After-put)
 
 pub keep-requires : goal.keep-requires
 keep-requires c =
-    renew_keeps c.requires (old-same (goal.at.keep-requires c).After-copy-3-1) (marks (goal.at.keep-requires c).After-places-left)
+    let here = goal.at.keep-requires c in
+    renew_keeps c.requires (old_same here.After-put) (marks here.After-places-left)
 
 pub returns : goal.returns
 returns c =
-    renew_writes c.requires (old-same (goal.at.returns c).After-copy-3-1) (marks (goal.at.returns c).After-places-left)
-    c.keep.ensures
+    let here = goal.at.returns c in
+    renew_writes c.requires (old_same here.After-put) (marks here.After-places-left) c.keep.ensures

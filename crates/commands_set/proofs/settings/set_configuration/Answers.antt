@@ -1,15 +1,12 @@
 -- `set_configuration` meets its contract: each way out has passed the checks before it, and what it says and writes is a law of
 -- `Sets`.
 use Prim.Native.Nat.{ℕ, ◌-◌, ◌≤◌}
-use native.Mathlib.Nat.{le_trans}
 use native.Mathlib.Omega.{arith}
 use mathlib.Core.Path.{◌≡◌, refl, sym, ap, subst, ◌∙◌}
 use mathlib.Core.List.{List}
 use mathlib.Core.Bool.{true}
-use lib.Dec.{lit≤}
 use lib.ListN.{length, take, drop, get_or, length-drop}
 use lib.Seq.{take_all}
-use borrow.Author.Tests.{not-true, not-false}
 use Rattle.rules.specs.Elements.{items, could_store}
 use Rattle.rules.specs.Endpoints.{far_right}
 use Rattle.rules.specs.Commands.{far_in}
@@ -25,7 +22,7 @@ use Rattle.commands_set.proofs.settings.set_configuration.Goals.{Else-not-could_
 
 right : (c : Else-not-far_right) → far_right (far_in (get_or c.args.payload.now 1 0)) ≡ true
 unfolding far_in
-right c = sym c.far_right.ensures ∙ not-false _ c.if-not-far_right.false-raw
+right c = sym c.far_right.ensures ∙ c.if-not-far_right.false
 
 -- the elements, as a part of the payload
 elements : (p : List ℕ) → part 2 (length p - 2) p ≡ drop 2 p
@@ -37,20 +34,16 @@ could : (c : Else-not-could_store)
 unfolding part
 could c =
     ap (λ (l : List ℕ). could_store (items l) (drop 2 c.args.payload.now)) (sym c.part.ensures)
-    ∙ sym c.could_store.ensures ∙ not-false _ c.if-not-could_store.false-raw
+    ∙ sym c.could_store.ensures ∙ c.if-not-could_store.false
 
 pub bounds-payload-1 : goal.bounds-payload-1
 bounds-payload-1 c =
     two c.requires
 
-pub rejected_for-requires : goal.rejected_for-requires
-rejected_for-requires c =
-    le_trans (lit≤ tt) c.requires.serves.room
-
 pub returns-then-not-far_right : goal.returns-then-not-far_right
 unfolding far_in
 returns-then-not-far_right c =
-    far_refused c.requires (sym c.far_right.ensures ∙ not-true _ c.if-not-far_right.true-raw)
+    far_refused c.requires (sym c.far_right.ensures ∙ c.if-not-far_right.true)
     (c.rejected_for.ensures.said, c.rejected_for.ensures.reply)
 
 pub part-requires : goal.part-requires
@@ -73,22 +66,21 @@ get-h-requires c =
 
 pub overflow_sub-payload : goal.overflow_sub-payload
 overflow_sub-payload c =
-    two c.requires
+    omega (arith, two c.requires)
 
 pub part-requires-2 : goal.part-requires-2
 part-requires-2 c =
     omega (arith, two c.requires)
 
 pub keep_whole-requires : goal.keep_whole-requires
-keep_whole-requires c =
-    (
-      (stands c.pre).inside,
-      subst (λ (l : List ℕ). length l ≤ 64) (sym (c.part-2.ensures ∙ elements c.args.payload.now))
-          (could_few c.pre (could (goal.at.keep_whole-requires c).Else-not-could_store)),
-    )
+keep_whole-requires c = (
+  (stands c.requires).inside,
+  subst (λ (l : List ℕ). length l ≤ 64) (sym (c.part-2.ensures ∙ elements c.args.payload.now))
+      (could_few c.requires (could (goal.at.keep_whole-requires c).Else-not-could_store)),
+)
 
 pub returns : goal.returns
 unfolding far_in
 returns c =
-    whole_moves c.pre (right (goal.at.returns c).Else-not-far_right) (could (goal.at.returns c).Else-not-could_store) (c.part-2.ensures ∙ elements c.args.payload.now)
-    c.get-h.ensures c.settled.ensures c.accepted.ensures c.keep_whole.ensures
+    whole_moves c.requires (right (goal.at.returns c).Else-not-far_right) (could (goal.at.returns c).Else-not-could_store)
+    (c.part-2.ensures ∙ elements c.args.payload.now) c.get-h.ensures c.settled.ensures c.accepted.ensures c.keep_whole.ensures

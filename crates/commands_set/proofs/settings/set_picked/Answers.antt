@@ -6,10 +6,10 @@ use mathlib.Core.List.{List}
 use mathlib.Core.Bool.{true}
 use native.Mathlib.Nat.{le_trans}
 use lib.Dec.{lit≤}
-use lib.ListN.{take, drop, get_or}
+use lib.ListN.{take, drop}
 use Rattle.rules.specs.Elements.{items}
 use Rattle.rules.specs.Endpoints.{far_right, settled_by}
-use Rattle.rules.specs.Commands.{far_in}
+use Rattle.rules.specs.declared.FarSeid.{FarSeid}
 use Rattle.rules.specs.declared.Rule.TheVariants.{Setting}
 use Rattle.elements_reader.specs.Orders.{TransportFirst}
 use Rattle.octets.specs.Patch.{part}
@@ -18,13 +18,13 @@ use Rattle.commands_checks.proofs.Meeting.{stands}
 use Rattle.commands_set.proofs.Doings.{listed}
 use Rattle.commands_set.proofs.Sets.{set_keeps, fault_refused, set_moves}
 use Rattle.commands_set.proofs.settings.set_picked.Goals as goal
-use Rattle.commands_set.proofs.settings.set_picked.Goals.{After-check-walked, Start}
+use Rattle.commands_set.proofs.settings.set_picked.Goals.{After-check-walked}
 
 -- ---- What is known on the way
 
 -- the far SEID is right, in the words of the call
-right : (c : Start) → far_right (far_in (get_or c.args.payload.now 1 0)) ≡ true
-right c = ap far_right (sym c.requires.1) ∙ c.requires.2
+right : {far octet : FarSeid} → far ≡ octet → far_right far ≡ true → far_right octet ≡ true
+right same h = ap far_right (sym same) ∙ h
 
 found : (c : After-check-walked)
     → c.check-walked.result
@@ -42,10 +42,6 @@ unfolding part
 check-walked-requires c =
     (subst TransportFirst (sym c.part.ensures) (listed c.requires.0), le_trans c.requires.0.serves.short (lit≤ tt))
 
-pub rejected_element-requires : goal.rejected_element-requires
-rejected_element-requires c =
-    le_trans (lit≤ tt) c.requires.0.serves.room
-
 pub get-h-requires : goal.get-h-requires
 get-h-requires c =
     (stands c.requires.0).inside
@@ -56,11 +52,12 @@ keep-requires c =
 
 pub returns-in-Failed : goal.returns-in-Failed
 returns-in-Failed c =
-    fault_refused c.pre.0 (right (goal.at.returns-in-Failed c).Start) (sym (found (goal.at.returns-in-Failed c).After-check-walked) ∙ c.in-Failed.is)
+    fault_refused c.requires.0 (right c.requires.1 c.requires.2)
+    (sym (found (goal.at.returns-in-Failed c).After-check-walked) ∙ c.in-Failed.is)
     (c.rejected_element.ensures.said, c.rejected_element.ensures.reply)
 
 pub returns-in-Clean : goal.returns-in-Clean
 returns-in-Clean c =
-    set_moves c.pre.0 (right (goal.at.returns-in-Clean c).Start) (sym (found (goal.at.returns-in-Clean c).After-check-walked) ∙ c.in-Clean.is) c.none.ensures
-    c.get-h.ensures (c.settled.ensures ∙ ap (λ f. settled_by f c.get-h.result) c.pre.1)
+    set_moves c.requires.0 (right c.requires.1 c.requires.2)
+    (sym (found (goal.at.returns-in-Clean c).After-check-walked) ∙ c.in-Clean.is) c.none.ensures c.get-h.ensures (c.settled.ensures ∙ ap (λ f. settled_by f c.get-h.result) c.requires.1)
     c.accepted.ensures c.keep.ensures

@@ -25,21 +25,23 @@ idle_octet (suc (suc (suc (suc zero)))) h = refl
 idle_octet (suc (suc (suc (suc (suc zero))))) h = refl
 idle_octet (suc (suc (suc (suc (suc (suc o)))))) h = absurd (omega arith)
 
-state_octet_lem : (r : List ℕ) → record_right r ≡ true → get_or r state_place 0 ≤ 5
+state_octet : (r : List ℕ) → record_right r ≡ true → get_or r state_place 0 ≤ 5
 unfolding record_right
-state_octet_lem r right = leb-true (get_or r state_place 0) 5 (search (and_l, and_r))
+state_octet r right = leb-true (get_or r state_place 0) 5 (search (and_l, and_r))
 
 module _ (l : List ℕ) (i : ℕ) (right : record_right (record_at i l) ≡ true) where
   octet_there : get_or l (i * record_room + state_place) 0 ≡ get_or (record_at i l) state_place 0
   octet_there =
-      sym (get_or-take record_room (drop (i * record_room) l) state_place 0 (omega arith) ∙ get_or-drop (i * record_room) l state_place 0)
+      sym
+      (get_or-take record_room (drop (i * record_room) l) state_place 0 (omega arith)
+      ∙ get_or-drop (i * record_room) l state_place 0)
 
   used_by : (b : Bool) → eqb (get_or l (i * record_room + state_place) 0) 0 ≡ b
       → ◌≡◌ {A = ℕ} (if b then 0 else 2) (in_use (endpoint_in (record_at i l)))
   unfolding in_use endpoint_in head_in
   used_by b e =
       ap (λ (t : Bool). if t then 0 else 2)
-      (sym e ∙ ap (λ (o : ℕ). eqb o 0) octet_there ∙ sym (idle_octet _ (state_octet_lem (record_at i l) right)))
+      (sym e ∙ ap (λ (o : ℕ). eqb o 0) octet_there ∙ sym (idle_octet _ (state_octet (record_at i l) right)))
 
 pub bounds-records-i : goal.bounds-records-i
 bounds-records-i c =

@@ -23,11 +23,11 @@ record Hand (book : List ℕ) (entries at : ℕ) : Type 0 where
   seid : get_or book at 0 ≤ 62
   few : entries ≤ 16
 
-abbrev Hand-at : In-loop-i → Type 0
-Hand-at c =
+abbrev HandAt : In-loop-i → Type 0
+HandAt c =
     Hand c.args.book.now c.count-entries.result c.loop-i.at
 
-at_hand : (c : In-loop-i) → Hand-at c
+at_hand : (c : In-loop-i) → HandAt c
 at_hand c =
     let n = c.count-entries.result - (c.loop-i.i + 1) in
     record {
@@ -45,18 +45,13 @@ used_little e {n} = go (is_idle e.head.state)
     go true h = omega arith
     go false h = omega arith
 
-pub count-entries-requires : goal.count-entries-requires
-count-entries-requires c =
-    c.requires.0
-
 pub loop-i-init : goal.loop-i-init
-loop-i-init c =
-    (
-      omega arith,
-      refl,
-      all_left c.args.book.now _ c.requires.0 c.count-entries.ensures,
-      ap (λ s. patch 0 s c.args.reply.now) (all_octets c.args.book.now c.args.records.now _ c.count-entries.ensures),
-    )
+loop-i-init c = (
+  omega arith,
+  refl,
+  all_left c.args.book.now _ c.requires.0 c.count-entries.ensures,
+  ap (λ s. patch 0 s c.args.reply.now) (all_octets c.args.book.now c.args.records.now _ c.count-entries.ensures),
+)
 
 pub bounds-book-at : goal.bounds-book-at
 bounds-book-at c =
@@ -67,19 +62,14 @@ overflow_mul-reply c =
     let h = at_hand (goal.at.overflow_mul-reply c).In-loop-i in omega arith
 
 pub in_use-requires : goal.in_use-requires
-in_use-requires c =
-    (
-      omega (arith, c.requires.1.room),
-      record_right_lem _ c.loop-i.i c.args.records.now (omega arith) c.requires.1.right,
-    )
+in_use-requires c = (
+  omega (arith, c.requires.1.room),
+  record_right_lem _ c.loop-i.i c.args.records.now (omega arith) c.requires.1.right,
+)
 
 pub overflow_add-reply : goal.overflow_add-reply
 overflow_add-reply c =
     let h = at_hand (goal.at.overflow_add-reply c).In-loop-i in omega (arith, used_little _ c.in_use.ensures)
-
-pub overflow_mul-reply-in-loop-i : goal.overflow_mul-reply-in-loop-i
-overflow_mul-reply-in-loop-i c =
-    let h = at_hand (goal.at.overflow_mul-reply-in-loop-i c).In-loop-i in omega arith
 
 pub bounds-reply-i : goal.bounds-reply-i
 bounds-reply-i c =
@@ -92,14 +82,6 @@ overflow_add-reply-in-loop-i c =
 pub bounds-book-at-in-loop-i : goal.bounds-book-at-in-loop-i
 bounds-book-at-in-loop-i c =
     let h = at_hand (goal.at.bounds-book-at-in-loop-i c).In-loop-i in omega arith
-
-pub overflow_mul-reply-in-loop-i-2 : goal.overflow_mul-reply-in-loop-i-2
-overflow_mul-reply-in-loop-i-2 c =
-    let h = at_hand (goal.at.overflow_mul-reply-in-loop-i-2 c).In-loop-i in omega arith
-
-pub overflow_add-reply-in-loop-i-2 : goal.overflow_add-reply-in-loop-i-2
-overflow_add-reply-in-loop-i-2 c =
-    let h = at_hand (goal.at.overflow_add-reply-in-loop-i-2 c).In-loop-i in omega arith
 
 pub bounds-reply-i-in-loop-i : goal.bounds-reply-i-in-loop-i
 bounds-reply-i-in-loop-i c =
@@ -117,17 +99,9 @@ pub bounds-book-at-in-loop-i-2 : goal.bounds-book-at-in-loop-i-2
 bounds-book-at-in-loop-i-2 c =
     let h = at_hand (goal.at.bounds-book-at-in-loop-i-2 c).In-loop-i in omega arith
 
-pub overflow_cast-at : goal.overflow_cast-at
-overflow_cast-at c =
-    let h = at_hand (goal.at.overflow_cast-at c).In-loop-i in omega arith
-
 pub overflow_add-at-in-loop-i-2 : goal.overflow_add-at-in-loop-i-2
 overflow_add-at-in-loop-i-2 c =
     let h = at_hand (goal.at.overflow_add-at-in-loop-i-2 c).In-loop-i in omega arith
-
-pub overflow_add-i : goal.overflow_add-i
-overflow_add-i c =
-    let h = at_hand (goal.at.overflow_add-i c).In-loop-i in omega arith
 
 pub loop-i-preserved : goal.loop-i-preserved
 loop-i-preserved c =
@@ -136,19 +110,11 @@ loop-i-preserved c =
       omega arith,
       simp length-set c.loop-i.invariant.1,
       rest_left n (c.count-entries.result - c.loop-i.i) c.args.book.now c.loop-i.at (omega arith) c.loop-i.invariant.2,
-      octets_turn n (c.count-entries.result - c.loop-i.i) c.args.book.now c.loop-i.at c.args.records.now c.loop-i.i (omega arith) c.loop-i.reply
-          c.in_use.ensures (omega arith) c.loop-i.invariant.3,
+      octets_turn n (c.count-entries.result - c.loop-i.i) c.args.book.now c.loop-i.at c.args.records.now c.loop-i.i
+          (omega arith) c.loop-i.reply c.in_use.ensures (omega arith) c.loop-i.invariant.3,
     )
-
-pub overflow_mul-result : goal.overflow_mul-result
-overflow_mul-result c =
-    omega (arith, (right_book c.args.book.now c.requires.0).few, c.count-entries.ensures)
-
-pub shape_of-reply : goal.shape_of-reply
-shape_of-reply c =
-    c.loop-i.invariant.1
 
 pub returns : goal.returns
 returns c =
-    octets_said (c.count-entries.result - c.loop-i.i) c.args.book.now c.loop-i.at c.args.records.now c.loop-i.i c.count-entries.result c.loop-i.reply
-    c.args.reply.now (omega arith) c.count-entries.ensures c.loop-i.invariant.3
+    octets_said (c.count-entries.result - c.loop-i.i) c.args.book.now c.loop-i.at c.args.records.now c.loop-i.i
+    c.count-entries.result c.loop-i.reply c.args.reply.now (omega arith) c.count-entries.ensures c.loop-i.invariant.3
