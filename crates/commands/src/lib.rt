@@ -17,6 +17,7 @@ use commands_reply::Said;
 use rules::{Header, Signal};
 
 // What a command that names one endpoint does there.
+#[tactic(auto, unfolding(commands_checks::specs::Met::names_one))]
 fn act(
     signal: Signal,
     book: &[u8],

@@ -130,7 +130,8 @@ preamble_as : (signal : Signal) (book records p : List ℕ)
     → preamble signal (book_of book) (ends_of book records) p ≡ met_as (our_in (get_or p 0 0)) book (met_in signal book records p)
 unfolding preamble met_in
 preamble_as signal book records p =
-    by_length (length_right signal (length p)) (our_in (get_or p 0 0)) book _ _ (meets_as signal book records (our_in (get_or p 0 0)))
+    by_length (length_right signal (length p)) (our_in (get_or p 0 0)) book _ _
+    (meets_as signal book records (our_in (get_or p 0 0)))
 
 -- ---- What the command leads to
 

@@ -31,7 +31,8 @@ module _ (command : Book → Ends → List ℕ → Outcome) where
   module _ {book l p area : List ℕ} (serves : Serves book l p area) where
     -- a command that moves nothing leaves every octet of the records
     pub obeys_stay : (r : Reply) {said : Said} {area' : List ℕ}
-        → command (book_of book) (ends_of book l) p ≡ stays (ends_of book l) r → said ≡ said_of r → area' ≡ front (payload_of r) area
+        → command (book_of book) (ends_of book l) p ≡ stays (ends_of book l) r → said ≡ said_of r
+        → area' ≡ front (payload_of r) area
         → Obeys command book l p area said l area'
     obeys_stay r e s a =
         obeys book l p area (ends_of book l) r e s (unmoved (length (book_of book)) l serves.held) a

@@ -84,7 +84,8 @@ module _ (signal : Signal) (to : State) where
           (ap (shift_one signal to s (ends_of book l) (λ x. shift_each signal to (book_of book) x (drop (suc i) p)))
           (meets_as signal book l s ∙ ap (met_as s book) e))
 
-      pub stopped : length_right signal (length p) ≡ true → {code : ℕ} → met_of signal book l (our_in (get_or p i 0)) ≡ Refused code
+      pub stopped : length_right signal (length p) ≡ true → {code : ℕ}
+          → met_of signal book l (our_in (get_or p i 0)) ≡ Refused code
           → {said : Said} (area : List ℕ) {area' : List ℕ}
           → said ≡ said_of (rejects signal (get_or p i 0 / 4 * 4) code)
           → area' ≡ front (payload_of (rejects signal (get_or p i 0 / 4 * 4) code)) area

@@ -19,17 +19,17 @@ Met s = BurstGiven s.args.book.now s.args.size s.args.saved.now s.args.lengths.n
 met : (s : Start) → Met s
 met s = burst_given _ _ _ _ _ s.requires
 
-abbrev at-loop : After-fit → At-loop-i
-at-loop c = c.before.before.before.before
+abbrev at_loop : After-fit → At-loop-i
+at_loop c = c.before.before.before.before
 
 abbrev begun : After-fit → Start
-begun c = start (at-loop c).before
+begun c = start (at_loop c).before
 
 -- the packet at hand lies within the octets
 within : (c : After-fit)
-    → let here = (at-loop c).loop in here.at + c.fit.result ≤ length (begun c).args.octets.now
+    → let here = (at_loop c).loop in here.at + c.fit.result ≤ length (begun c).args.octets.now
 within c =
-    let here = (at-loop c).loop in
+    let here = (at_loop c).loop in
     let args = (begun c).args in
     let fits =
     next_within args.book.now args.size args.saved.now args.octets.now args.lengths.now
@@ -74,7 +74,7 @@ overflow_mul-i c =
 
 pub take_at-t-requires : goal.take_at-t-requires
 take_at-t-requires c =
-    may_take_at _ _ _ _ _ _ (met (begun (goal.at.take_at-t-requires c).After-fit)) (at-loop (goal.at.take_at-t-requires c).After-fit).loop.invariant.2 c.loop-i-test.true
+    may_take_at _ _ _ _ _ _ (met (begun (goal.at.take_at-t-requires c).After-fit)) (at_loop (goal.at.take_at-t-requires c).After-fit).loop.invariant.2 c.loop-i-test.true
 
 pub offset_bounds-told-i : goal.offset_bounds-told-i
 offset_bounds-told-i c =
@@ -91,12 +91,12 @@ overflow_add-i c =
 pub loop-i-preserved : goal.loop-i-preserved
 loop-i-preserved c =
     let fit = fit_of (goal.at.loop-i-preserved c).After-slice_known-in-loop-i-2-1 in
-    let in-loop = fit.before.before in
-    let here = (at-loop fit).loop in
+    let in_loop = fit.before.before in
+    let here = (at_loop fit).loop in
     let size : here.at + fit.fit.result - here.at ≡ fit.fit.result = omega arith in (
       omega arith,
       c.take_at-t.auto.size.1.0 ∙ here.inv.1,
-      reached_next _ _ _ _ _ _ (met (begun fit)) here.inv.2 in-loop.loop-test.taken fit.fit.result
+      reached_next _ _ _ _ _ _ (met (begun fit)) here.inv.2 in_loop.loop-test.taken fit.fit.result
           fit.fit.ensures _ _ _ _ (ap (λ (k : ℕ). take k (drop here.at (begun fit).args.octets.now)) size)
           c.take_at-t.ensures,
     )

@@ -40,12 +40,11 @@ returns-then-saved-entries c =
     c.if-saved-entries.true
 
 pub begin-requires : goal.begin-requires
-begin-requires c =
-    (
-      right (goal.at.begin-requires c).Else-number-ne0,
-      lent_room c.args.book.now c.args.saved.now (right (goal.at.begin-requires c).Else-number-ne0) c.count-entries.result c.count-entries.ensures
-          c.if-saved-entries.false,
-    )
+begin-requires c = (
+  right (goal.at.begin-requires c).Else-number-ne0,
+  lent_room c.args.book.now c.args.saved.now (right (goal.at.begin-requires c).Else-number-ne0) c.count-entries.result c.count-entries.ensures
+      c.if-saved-entries.false,
+)
 
 pub overflow_cast-saved : goal.overflow_cast-saved
 overflow_cast-saved c =

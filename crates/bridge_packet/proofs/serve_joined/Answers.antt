@@ -55,12 +55,11 @@ slice_bounds-serve-end c =
     within _ _ _ _ (short (goal.at.slice_bounds-serve-end c).After-assemble-length) c.assemble-length.ensures.written c.assemble-length.ensures.size
 
 pub serve-requires : goal.serve-requires
-serve-requires c =
-    (
-      c.pre.long,
-      subst (λ (x : List ℕ). Serves c.args.book.now (records_of c.args.saved.now) x c.args.reply.now) (sym (lent_at (goal.at.serve-requires c).After-assemble-length))
-          c.pre.serves,
-    )
+serve-requires c = (
+  c.pre.long,
+  subst (λ (x : List ℕ). Serves c.args.book.now (records_of c.args.saved.now) x c.args.reply.now) (sym (lent_at (goal.at.serve-requires c).After-assemble-length))
+      c.pre.serves,
+)
 
 pub returns : goal.returns
 returns c =

@@ -4,7 +4,6 @@ use native.Mathlib.Nat.{le_trans}
 use lib.Dec.{lit≤}
 use Rattle.commands.proofs.Dispatch.{refused}
 use Rattle.commands.proofs.on_endpoint.Goals as goal
-use Rattle.commands.proofs.on_endpoint.Goals.{In-Here-2}
 
 pub preamble-met-requires : goal.preamble-met-requires
 preamble-met-requires c =
@@ -16,7 +15,7 @@ refused-requires c =
 
 pub act-requires : goal.act-requires
 act-requires c =
-    (c.requires.0, record { serves = c.requires.1; (goal.at.act-requires c).In-Here-2 = sym c.preamble-met.ensures ∙ c.in-Here.is })
+    (c.requires.0, record { serves = c.requires.1; met = sym c.preamble-met.ensures ∙ c.in-Here.is })
 
 pub returns-in-Refused : goal.returns-in-Refused
 returns-in-Refused c =

@@ -32,14 +32,13 @@ returns-then-is_awaited c =
     c.is_awaited.ensures c.if-is_awaited.true c.switched.ensures c.set_head.ensures
 
 pub loop-i-preserved : goal.loop-i-preserved
-loop-i-preserved c =
-    (
-      c.loop-i.invariant.0,
-      omega arith,
-      up_goes_on c.args.count c.loop-i.i c.loop-i.records c.args.records.now c.get-e.result
-          c.is_awaited.result c.loop-i-test.true c.loop-i.invariant.2 c.loop-i.invariant.0
-          c.get-e.ensures c.is_awaited.ensures c.if-is_awaited.false,
-    )
+loop-i-preserved c = (
+  c.loop-i.invariant.0,
+  omega arith,
+  up_goes_on c.args.count c.loop-i.i c.loop-i.records c.args.records.now c.get-e.result
+      c.is_awaited.result c.loop-i-test.true c.loop-i.invariant.2 c.loop-i.invariant.0
+      c.get-e.ensures c.is_awaited.ensures c.if-is_awaited.false,
+)
 
 pub shape_of-records : goal.shape_of-records
 shape_of-records c =

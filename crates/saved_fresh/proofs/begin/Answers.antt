@@ -33,13 +33,12 @@ count-entries-requires c =
     c.requires.0
 
 pub loop-i-init : goal.loop-i-init
-loop-i-init c =
-    (
-      omega arith,
-      refl,
-      all_left c.args.book.now _ c.requires.0 c.count-entries.ensures,
-      none_begun c.args.book.now c.args.records.now _ c.count-entries.ensures,
-    )
+loop-i-init c = (
+  omega arith,
+  refl,
+  all_left c.args.book.now _ c.requires.0 c.count-entries.ensures,
+  none_begun c.args.book.now c.args.records.now _ c.count-entries.ensures,
+)
 
 pub bounds-book-at : goal.bounds-book-at
 bounds-book-at c =

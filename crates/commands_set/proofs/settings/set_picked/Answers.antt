@@ -59,5 +59,5 @@ returns-in-Failed c =
 pub returns-in-Clean : goal.returns-in-Clean
 returns-in-Clean c =
     set_moves c.requires.0 (right c.requires.1 c.requires.2)
-    (sym (found (goal.at.returns-in-Clean c).After-check-walked) ∙ c.in-Clean.is) c.none.ensures c.get-h.ensures (c.settled.ensures ∙ ap (λ f. settled_by f c.get-h.result) c.requires.1)
-    c.accepted.ensures c.keep.ensures
+    (sym (found (goal.at.returns-in-Clean c).After-check-walked) ∙ c.in-Clean.is) c.none.ensures c.get-h.ensures
+    (c.settled.ensures ∙ ap (λ f. settled_by f c.get-h.result) c.requires.1) c.accepted.ensures c.keep.ensures
