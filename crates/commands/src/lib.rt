@@ -97,6 +97,7 @@ pub fn obey(signal: u8, book: &[u8], records: &mut [u8], payload: &[u8], reply: 
 }
 
 // A message of any type: one that is no command is not answered.
+#[tactic(auto, using(crate::proofs::Messages::no_command))]
 pub fn answer(
     header: Header,
     book: &[u8],
