@@ -9,15 +9,7 @@ use Rattle.bridge_link.proofs.event.Goals.{Else-number-ne0}
 -- nothing is refused
 quiet : (c : Else-number-ne0) → Calm c.args.book.now c.args.saved.now
 quiet c =
-    calm _ _ _ (λ i. (c.??After_shared_slice_known.slice-known.given i).fits) c.refusal-number.ensures c.if-number-ne0.false
-
--- ---- Channel up
-
--- ---- Channel down
-
--- ---- Link lost
-
--- ---- What each comes to
+    calm _ _ _ (λ i. (c.slice_known-1.given i).fits) c.refusal-number.ensures c.if-number-ne0.false
 
 pub returns-then-number-ne0 : goal.returns-then-number-ne0
 returns-then-number-ne0 c =
@@ -81,7 +73,7 @@ returns-in-Up c =
 pub returns-in-Down : goal.returns-in-Down
 returns-in-Down c =
     down_happens c.args.book.now c.args.saved.now (quiet (goal.at.returns-in-Down c).Else-number-ne0) c.args.event c.in-Down.seid
-    c.down.result c.down.new.records.0 c.in-Down.is c.down.ensures
+    c.down.result c.down.new.records c.in-Down.is c.down.ensures
 
 pub returns-in-Lost : goal.returns-in-Lost
 returns-in-Lost c =

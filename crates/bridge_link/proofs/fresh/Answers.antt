@@ -16,7 +16,7 @@ right c = sym c.check-number.ensures ∙ c.if-number-ne0.false
 -- the entries of a right book
 few : (c : After-count-entries) → c.count-entries.result ≤ 16
 few c =
-    omega (arith, c.count-entries.ensures, (right_book c.args.book.now (right c.before.before)).few)
+    omega (arith, c.count-entries.ensures, (right_book c.args.book.now (sym c.check-number.ensures ∙ c.if-number-ne0.false)).few)
 
 pub returns-then-number-ne0 : goal.returns-then-number-ne0
 returns-then-number-ne0 c =
@@ -57,4 +57,4 @@ bounds-saved-1 c =
 pub returns : goal.returns
 returns c =
     freshened c.args.book.now c.args.saved.now (right (goal.at.returns c).Else-number-ne0) c.count-entries.result c.count-entries.ensures
-    c.if-saved-entries.false c.begin.new.records.0 c.begin.ensures
+    c.if-saved-entries.false c.begin.new.records c.begin.ensures

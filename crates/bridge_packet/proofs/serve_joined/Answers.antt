@@ -40,15 +40,15 @@ lent_at c = lent _ _ _ _ (short c) c.assemble-length.ensures.written c.assemble-
 
 pub assemble-length-requires : goal.assemble-length-requires
 assemble-length-requires c =
-    let both = subst
-    (λ (x : List ℕ).
-    (length x ≡ gathering_room)
-    × ((1 ≤ length c.args.packet.now)
-    × ((pair_in (get_or x 6 0) (get_or x 7 0) ≤ 512)
-    × (length (gathering_at x).message.payload + length (drop 1 c.args.packet.now) ≤ 512))))
-    (sym c.link_of.ensures)
-    (link_whole c.args.saved.now c.requires.long, (c.requires.header, (c.requires.gathered, c.requires.fits))) in
-    record { room_whole = both.0; packet_begun = both.1; gathered_fits = both.2; message_fits = both.3 }
+    let same_link = sym c.link_of.ensures in
+    record {
+      room_whole = subst (λ (x : List ℕ). length x ≡ gathering_room) same_link (link_whole c.args.saved.now c.requires.long);
+      packet_begun = c.requires.header;
+      gathered_fits = subst (λ (x : List ℕ). pair_in (get_or x 6 0) (get_or x 7 0) ≤ 512) same_link c.requires.gathered;
+      message_fits =
+        subst (λ (x : List ℕ). length (gathering_at x).message.payload + length (drop 1 c.args.packet.now) ≤ 512) same_link
+        c.requires.fits;
+    }
 
 pub slice_bounds-serve-end : goal.slice_bounds-serve-end
 slice_bounds-serve-end c =
@@ -56,9 +56,9 @@ slice_bounds-serve-end c =
 
 pub serve-requires : goal.serve-requires
 serve-requires c = (
-  c.pre.long,
+  c.requires.long,
   subst (λ (x : List ℕ). Serves c.args.book.now (records_of c.args.saved.now) x c.args.reply.now) (sym (lent_at (goal.at.serve-requires c).After-assemble-length))
-      c.pre.serves,
+      c.requires.serves,
 )
 
 pub returns : goal.returns

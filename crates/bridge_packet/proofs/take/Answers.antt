@@ -30,45 +30,45 @@ gathered-then-requires c =
 
 pub slice_bounds-serve-count : goal.slice_bounds-serve-count
 slice_bounds-serve-count c =
-    single_header c.args.book.now c.args.size c.args.saved.now c.args.packet.now c.args.reply.now c.pre
+    single_header c.args.book.now c.args.size c.args.saved.now c.args.packet.now c.args.reply.now c.requires
     (known (goal.at.slice_bounds-serve-count c).After-slice_known-1) _
     (next (goal.at.slice_bounds-serve-count c).After-gathered-then (Single _) c.in-Single.is)
 
 pub slice_bounds-serve-start : goal.slice_bounds-serve-start
 slice_bounds-serve-start c =
-    single_header c.args.book.now c.args.size c.args.saved.now c.args.packet.now c.args.reply.now c.pre
+    single_header c.args.book.now c.args.size c.args.saved.now c.args.packet.now c.args.reply.now c.requires
     (known (goal.at.slice_bounds-serve-start c).After-slice_known-1) _
     (next (goal.at.slice_bounds-serve-start c).After-gathered-then (Single _) c.in-Single.is)
 
 pub serve-requires : goal.serve-requires
 serve-requires c =
-    single_serves c.args.book.now c.args.size c.args.saved.now c.args.packet.now c.args.reply.now c.pre
+    single_serves c.args.book.now c.args.size c.args.saved.now c.args.packet.now c.args.reply.now c.requires
     (known (goal.at.serve-requires c).After-slice_known-1) _ _
     c.gathered-then.ensures.saved _ (behind_whole 2 c.args.packet.now) (next (goal.at.serve-requires c).After-gathered-then (Single _) c.in-Single.is)
 
 pub serve_joined-requires : goal.serve_joined-requires
 serve_joined-requires c =
-    joined_serves c.args.book.now c.args.size c.args.saved.now c.args.packet.now c.args.reply.now c.pre
+    joined_serves c.args.book.now c.args.size c.args.saved.now c.args.packet.now c.args.reply.now c.requires
     (known (goal.at.serve_joined-requires c).After-slice_known-1) _ _
     c.gathered-then.ensures.saved (next (goal.at.serve_joined-requires c).After-gathered-then (Complete _) c.in-Complete.is)
 
 pub returns-in-Single : goal.returns-in-Single
 returns-in-Single c =
-    single_done c.args.book.now c.args.size c.args.saved.now c.args.packet.now c.args.reply.now c.pre
+    single_done c.args.book.now c.args.size c.args.saved.now c.args.packet.now c.args.reply.now c.requires
     (known (goal.at.returns-in-Single c).After-slice_known-1) _ _
     c.gathered-then.ensures.saved _ (behind_whole 2 c.args.packet.now) (next (goal.at.returns-in-Single c).After-gathered-then (Single _) c.in-Single.is) _
     c.serve.ensures
 
 pub returns-in-Complete : goal.returns-in-Complete
 returns-in-Complete c =
-    joined_done c.args.book.now c.args.size c.args.saved.now c.args.packet.now c.args.reply.now c.pre
+    joined_done c.args.book.now c.args.size c.args.saved.now c.args.packet.now c.args.reply.now c.requires
     (known (goal.at.returns-in-Complete c).After-slice_known-1) _ _
     c.gathered-then.ensures.saved _ (next (goal.at.returns-in-Complete c).After-gathered-then (Complete _) c.in-Complete.is) c.serve_joined.ensures
 
 pub returns-in_default : goal.returns-in_default
 returns-in_default c =
     let room = link_of c.args.saved.now in
-    nothing_done c.args.book.now c.args.size c.args.saved.now c.args.packet.now c.args.reply.now c.pre
+    nothing_done c.args.book.now c.args.size c.args.saved.now c.args.packet.now c.args.reply.now c.requires
     (known (goal.at.returns-in_default c).After-slice_known-1) _ _
     c.gathered-then.ensures.saved c.nothing.ensures
     (none_done c.args.size room c.args.packet.now c.gathered-then.result (opened c.in_default.in_default-own.keys3)
