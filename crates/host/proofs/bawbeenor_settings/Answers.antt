@@ -7,7 +7,7 @@ use Rattle.bridge_refusals.proofs.Refusing.{Calm}
 use Rattle.host.specs.Exports.{record_from}
 use Rattle.host.proofs.SettingsStand.{told_none, told_some, missing, record_inside, offer_stands, stored_stands}
 use Rattle.host.proofs.bawbeenor_settings.Goals as goal
-use Rattle.host.proofs.bawbeenor_settings.Goals.{After-shared_slice_known-in-Known-1-unread, Else-length-eq0, Else-number-ne0, In-Known}
+use Rattle.host.proofs.bawbeenor_settings.Goals.{Else-number-ne0}
 
 -- nothing is refused
 quiet : (c : Else-number-ne0) → Calm c.args.book.now c.args.saved.now
@@ -27,19 +27,19 @@ locate-located-requires c =
 
 pub overflow_mul-head : goal.overflow_mul-head
 overflow_mul-head c =
-    omega (arith, (record_inside c.args.book.now c.args.saved.now c.args.seid (quiet (goal.at.overflow_mul-head (goal.at.overflow_mul-head c).In-Known).Else-number-ne0) _ _ _ _ (sym c.locate-located.ensures ∙ c.in-Known.is)))
+    omega (arith, record_inside c.args.book.now c.args.saved.now c.args.seid (quiet (goal.at.overflow_mul-head c).Else-number-ne0) _ _ _ _ (sym c.locate-located.ensures ∙ c.in-Known.is))
 
 pub overflow_add-head : goal.overflow_add-head
 overflow_add-head c =
-    omega (arith, (record_inside c.args.book.now c.args.saved.now c.args.seid (quiet (goal.at.overflow_add-head (goal.at.overflow_add-head c).In-Known).Else-number-ne0) _ _ _ _ (sym c.locate-located.ensures ∙ c.in-Known.is)))
+    omega (arith, record_inside c.args.book.now c.args.saved.now c.args.seid (quiet (goal.at.overflow_add-head c).Else-number-ne0) _ _ _ _ (sym c.locate-located.ensures ∙ c.in-Known.is))
 
 pub overflow_add-length : goal.overflow_add-length
 overflow_add-length c =
-    omega (arith, (record_inside c.args.book.now c.args.saved.now c.args.seid (quiet (goal.at.overflow_add-length (goal.at.overflow_add-length c).In-Known).Else-number-ne0) _ _ _ _ (sym c.locate-located.ensures ∙ c.in-Known.is)))
+    omega (arith, record_inside c.args.book.now c.args.saved.now c.args.seid (quiet (goal.at.overflow_add-length c).Else-number-ne0) _ _ _ _ (sym c.locate-located.ensures ∙ c.in-Known.is))
 
 pub bounds-saved-head : goal.bounds-saved-head
 bounds-saved-head c =
-    omega (arith, (record_inside c.args.book.now c.args.saved.now c.args.seid (quiet (goal.at.bounds-saved-head (goal.at.bounds-saved-head c).After-shared_slice_known-in-Known-1-unread).Else-number-ne0) _ _ _ _ (sym c.locate-located.ensures ∙ c.in-Known.is)))
+    omega (arith, record_inside c.args.book.now c.args.saved.now c.args.seid (quiet (goal.at.bounds-saved-head c).Else-number-ne0) _ _ _ _ (sym c.locate-located.ensures ∙ c.in-Known.is))
 
 pub overflow_cast-length : goal.overflow_cast-length
 overflow_cast-length c =
@@ -47,7 +47,7 @@ overflow_cast-length c =
 
 pub overflow_add-result : goal.overflow_add-result
 overflow_add-result c =
-    omega (arith, (record_inside c.args.book.now c.args.saved.now c.args.seid (quiet (goal.at.overflow_add-result (goal.at.overflow_add-result c).Else-length-eq0).Else-number-ne0) _ _ _ _ (sym c.locate-located.ensures ∙ c.in-Known.is)))
+    omega (arith, record_inside c.args.book.now c.args.saved.now c.args.seid (quiet (goal.at.overflow_add-result c).Else-number-ne0) _ _ _ _ (sym c.locate-located.ensures ∙ c.in-Known.is))
 
 pub returns-in-Unknown : goal.returns-in-Unknown
 returns-in-Unknown c =
