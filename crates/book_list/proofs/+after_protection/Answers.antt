@@ -22,12 +22,11 @@ returns-in_default t c =
 -- what `codec_right` requires
 pub codec_right-requires : goal.codec_right-requires
 unfolding followers member
-codec_right-requires t c =
-    (
-      c.requires,
-      (stands_whole c.args.list.now c.args.at _ _ _
-          (sym c.in-Whole.is ∙ c.element_at-element.ensures)).3,
-    )
+codec_right-requires t c = (
+  c.requires,
+  (stands_whole c.args.list.now c.args.at _ _ _
+      (sym c.in-Whole.is ∙ c.element_at-element.ensures)).3,
+)
 
 -- the codec
 pub returns-then-category-eq7 : goal.returns-then-category-eq7

@@ -24,14 +24,13 @@ loop-i-init c =
     (patch_none c.args.at c.args.dst.now, omega arith, refl)
 
 pub loop-i-preserved : goal.loop-i-preserved
-loop-i-preserved c =
-    (
-      more c.args.dst.now c.loop-i.dst c.put_eight.new.dst c.args.src.now c.args.at c.loop-i.i
-          c.loop-i.i c.loop-i.invariant.0 c.put_eight.ensures (omega arith) (omega arith) (omega arith)
-          (omega arith),
-      omega arith,
-      omega arith,
-    )
+loop-i-preserved c = (
+  more c.args.dst.now c.loop-i.dst c.put_eight.new.dst c.args.src.now c.args.at c.loop-i.i
+      c.loop-i.i c.loop-i.invariant.0 c.put_eight.ensures (omega arith) (omega arith) (omega arith)
+      (omega arith),
+  omega arith,
+  omega arith,
+)
 
 pub returns : goal.returns
 returns c =

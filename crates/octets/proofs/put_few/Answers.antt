@@ -24,13 +24,12 @@ loop-i-init c =
     (paste-zero c.args.dst.now c.args.to c.args.src.now, omega arith, refl)
 
 pub loop-i-preserved : goal.loop-i-preserved
-loop-i-preserved c =
-    (
-      turn c.args.dst.now c.loop-i.dst c.args.src.now c.args.to c.loop-i.i c.loop-i.invariant.0
-          (omega arith) (omega arith),
-      omega arith,
-      simp length-set c.loop-i.invariant.2,
-    )
+loop-i-preserved c = (
+  turn c.args.dst.now c.loop-i.dst c.args.src.now c.args.to c.loop-i.i c.loop-i.invariant.0
+      (omega arith) (omega arith),
+  omega arith,
+  simp length-set c.loop-i.invariant.2,
+)
 
 pub shape_of-dst : goal.shape_of-dst
 shape_of-dst c =

@@ -54,11 +54,10 @@ returns-then-a-i c =
     differs c.args.a.now c.args.b.now c.loop-i.i (omega arith) (omega arith) c.loop-i.invariant.1 c.if-a-i.true
 
 pub loop-i-preserved : goal.loop-i-preserved
-loop-i-preserved c =
-    (
-      omega arith,
-      agrees c.args.a.now c.args.b.now c.loop-i.i (omega arith) (omega arith) c.loop-i.invariant.1 c.if-a-i.false,
-    )
+loop-i-preserved c = (
+  omega arith,
+  agrees c.args.a.now c.args.b.now c.loop-i.i (omega arith) (omega arith) c.loop-i.invariant.1 c.if-a-i.false,
+)
 
 pub returns : goal.returns
 returns c =
