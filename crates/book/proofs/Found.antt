@@ -26,7 +26,8 @@ use Rattle.book.proofs.Entries.{RightEntry, RightEntries, first_entry, other_ent
 -- ---- A turn of the walk
 
 module _ (n left : ℕ) (s : OurSeid) (b : List ℕ) (at i : ℕ) (e : left ≡ suc n) where
-  pub place_here : get_or b at 0 ≡ s.0 → place_from left s b at i ≡ known_at i (get_or b (at + 1) 0) (at + 3) (get_or b (at + 2) 0)
+  pub place_here : get_or b at 0 ≡ s.0
+      → place_from left s b at i ≡ known_at i (get_or b (at + 1) 0) (at + 3) (get_or b (at + 2) 0)
   unfolding place_from
   place_here h = rw (e, eq-eqb (get_or b at 0) s.0 h)
 

@@ -88,7 +88,8 @@ follows_or_skips : ℕ → ℕ → Bool
 follows_or_skips last c =
     not (may_follow last c) || member c (followers true last) || (not (leb 7 last) && leb 7 c && not (eqb 7 c))
 
-follows_or_skips_lem : (last : ℕ) → member last offerable ≡ true → (c : ℕ) → member c offerable ≡ true → follows_or_skips last c ≡ true
+follows_or_skips_lem : (last : ℕ) → member last offerable ≡ true → (c : ℕ) → member c offerable ≡ true
+    → follows_or_skips last c ≡ true
 unfolding follows_or_skips followers may_follow member
 follows_or_skips_lem =
     by_offerable (λ last. (c : ℕ) → member c offerable ≡ true → follows_or_skips last c ≡ true)
@@ -150,7 +151,8 @@ module _ (media : ℕ) where
       ≡ (may_follow (get_or seen 0 0) c && member c offerable) && (offer_test media c v && right_past (c ∷ seen) is)
   unfolding right_past fault_past judge offer_code blamed item_category fault_or offer_test
   past_whole seen c v is =
-      go (may_follow (get_or seen 0 0) c && member c offerable) (eqb (length_code (category_of c) (length v)) 0) (start_right media c v)
+      go (may_follow (get_or seen 0 0) c && member c offerable) (eqb (length_code (category_of c) (length v)) 0)
+      (start_right media c v)
       (fault_past (Offer media) [] (c ∷ seen) is)
     where
       go : (a l s : Bool) (later : Fault)
@@ -275,7 +277,8 @@ empty k e = go (told (eqb k 0))
     go (failed t) = clash (rw t at e) refl
 
 first_empty : (media c n : ℕ) (xs : List ℕ) → n ≤ length xs
-    → (member c (followers true 0) && offer_test media c (take n xs)) && in_order true (offer_test media) c (items (drop n xs)) ≡ true
+    → (member c (followers true 0) && offer_test media c (take n xs))
+    && in_order true (offer_test media) c (items (drop n xs)) ≡ true
     → (c ≡ 1) × (n ≡ 0)
 unfolding followers member offer_test
 first_empty media c n xs h e =

@@ -39,7 +39,8 @@ end_behind l first = rw first
 
 module _ (again : Bool) (test : ℕ → List ℕ → Bool) where
   -- behind the codec nothing is shown
-  none_shown : (is : List Item) (last : ℕ) → leb 7 last ≡ true → in_order again test last is ≡ true → written (up_to_codec is) ≡ []
+  none_shown : (is : List Item) (last : ℕ) → leb 7 last ≡ true → in_order again test last is ≡ true
+      → written (up_to_codec is) ≡ []
   unfolding in_order written up_to_codec
   none_shown [] last high e = refl
   none_shown (short c ∷ is) last high e = clash refl (sym e)

@@ -17,7 +17,8 @@ use Rattle.octets_alone.specs.Weights.{little_of, Weighed}
 -- ---- The number
 
 pub four_weighed : (s : List ℕ) (at r : ℕ) → at + 4 ≤ length s → get_or s at 0 < 256
-    → r ≡ get_or s at 0 + (get_or s (at + 1) 0 + (get_or s (at + 2) 0 + get_or s (at + 3) 0 * 256) * 256) * 256 → Weighed (part at 4 s) r
+    → r ≡ get_or s at 0 + (get_or s (at + 1) 0 + (get_or s (at + 2) 0 + get_or s (at + 3) 0 * 256) * 256) * 256
+    → Weighed (part at 4 s) r
 unfolding little_of part octets_from
 four_weighed s at r long octet e =
     let one : at + 1 ≡ suc at = omega arith in

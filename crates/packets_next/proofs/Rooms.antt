@@ -12,7 +12,8 @@ use lib.ListN.{length, drop, get_or, length-drop}
 use lib.Seq.{length-take-le}
 use Rattle.rules.specs.Packets.{Gathering, longest, gather}
 use Rattle.rules.specs.Endpoints.{legal_gathering}
-use Rattle.rules.specs.Saved.{gathering_room, payload_length_in, gathering_at, gathering_in, gathering_octets_right, store_gathering}
+use Rattle.rules.specs.Saved.{gathering_room, payload_length_in, gathering_at, gathering_in, gathering_octets_right}
+use Rattle.rules.specs.Saved.{store_gathering}
 use Rattle.rules.proofs.Tests.{and_l, and_r}
 use Rattle.rules.proofs.SavedReads.{payload_fits, gathering_back, gathering_length, gathering_right_lem}
 use Rattle.rules.proofs.RightMessages.{gather_right}

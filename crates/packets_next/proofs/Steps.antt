@@ -1,5 +1,5 @@
--- What one packet leads to, told twice: the step of the gathering and the answer of `next_of` go by the same tests, so each answer
--- comes with what is known of the packet and of the step.
+-- What one packet leads to, told twice: the step of the gathering and the answer of `next_of` go by the same tests, so each
+-- answer comes with what is known of the packet and of the step.
 use borrow.Author.Tests.{leb-true, ltb-true}
 use Prim.Native.Nat.{ℕ, suc, ◌+◌, ◌≤◌, ◌<◌}
 use native.Mathlib.Omega.{arith}
@@ -9,9 +9,9 @@ use mathlib.Core.Bool.{Bool, true, false, ◌&&◌}
 use mathlib.Core.Option.{Option, none, some}
 use lib.Dec.{leb, ltb, eqb}
 use lib.ListN.{length, drop, get_or}
-use Rattle.rules.specs.Octets.{between}
-use Rattle.std.specs.Prelude.{if◌then◌else◌}
-use Rattle.rules.specs.Packets.{PacketType, a_single, a_start, a_continue, an_end, packet_type_in, label_in, mtype_in, message_from}
+use Rattle.rules.specs.Octets.{if◌then◌else◌, between}
+use Rattle.rules.specs.Packets.{PacketType, a_single, a_start, a_continue, an_end, packet_type_in, label_in, mtype_in}
+use Rattle.rules.specs.Packets.{message_from}
 use Rattle.rules.specs.Packets.{read_as, read, packet_in, Gathering, Step, ended, completes, gathers, extended, begin, is_next}
 use Rattle.rules.specs.Packets.{joined, goes_on, taken, gather, longest}
 use Rattle.rules.specs.Saved.{gathering_at, gathering_in}

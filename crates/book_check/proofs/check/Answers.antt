@@ -70,12 +70,12 @@ pub returns-then-book-eq0 : goal.returns-then-book-eq0
 returns-then-book-eq0 c =
     sym (named (goal.at.returns-then-book-eq0 c).Else-not-same-2 ∙ simp (too_few _ c.if-book-eq0.true))
 
+pub returns : goal.returns
+returns c =
+    c.entries_number.ensures
+    ∙ sym (named (goal.at.returns c).Else-not-same-2 ∙ simp (counted _ c.if-book-eq0.false (omega arith)))
+
 pub returns-then-book-gt16 : goal.returns-then-book-gt16
 returns-then-book-gt16 c =
     sym (named (goal.at.returns-then-book-gt16 c).Else-not-same-2
     ∙ simp (too_many (get_or c.args.book.now 5 0) (omega arith)))
-
-pub returns : goal.returns
-returns c =
-    c.entries_number.ensures
-    ∙ sym (named (goal.at.returns c).Else-not-same-2 ∙ simp (counted _ c.if-book-eq0.false c.if-book-gt16.false))

@@ -1,11 +1,11 @@
 -- `entry_number` meets its contract: each return is the chain of tests of `entry_number` as far as it was passed, a law of
 -- `OneEntry`.
-use Prim.Native.Nat.{ℕ, ◌+◌}
+use Prim.Native.Nat.{ℕ, ◌+◌, ◌-◌}
 use native.Mathlib.Omega.{arith}
 use mathlib.Core.Path.{◌≡◌, ◌∙◌}
 use mathlib.Core.List.{List}
 use mathlib.Core.Bool.{Bool, true, false, not}
-use lib.ListN.{take, drop}
+use lib.ListN.{length, take, drop, get_or}
 use borrow.Author.Tests.{lt-ltb, le-ltb}
 use Rattle.std.specs.Prelude.{if◌then◌else◌}
 use Rattle.rules.specs.Elements.{items}
@@ -28,7 +28,7 @@ told_as : (c : After-list_right) (t : Bool) → c.list_right.result ≡ t
 told_as c t e =
     (simp (
       le-ltb _ _ c.if-size-gt64.false,
-      le-ltb _ _ c.if-book-list.false,
+      le-ltb (length c.args.book.now - (c.args.at + 3)) (get_or c.args.book.now (c.args.at + 2) 0) (omega arith),
       list_told _ _ _ _ _ _ _ c.part.ensures c.list_right.ensures e,
     ))
     ∙ headed c.args.before c.args.book.now c.args.at (omega arith) (omega arith) (omega arith) (omega arith) (omega arith)
@@ -62,11 +62,6 @@ returns-then-size-gt64 c =
     (simp (lt-ltb _ _ c.if-size-gt64.true))
     ∙ headed c.args.before c.args.book.now c.args.at (omega arith) (omega arith) (omega arith) (omega arith) (omega arith)
 
-pub returns-then-book-list : goal.returns-then-book-list
-returns-then-book-list c =
-    (simp (le-ltb _ _ c.if-size-gt64.false, lt-ltb _ _ c.if-book-list.true))
-    ∙ headed c.args.before c.args.book.now c.args.at (omega arith) (omega arith) (omega arith) (omega arith) (omega arith)
-
 pub returns-then-list_right : goal.returns-then-list_right
 returns-then-list_right c =
     told_as (goal.at.returns-then-list_right c).After-list_right true c.if-list_right.true
@@ -74,3 +69,8 @@ returns-then-list_right c =
 pub returns-else-list_right : goal.returns-else-list_right
 returns-else-list_right c =
     told_as (goal.at.returns-else-list_right c).After-list_right false c.if-list_right.false
+
+pub returns-then-book-list : goal.returns-then-book-list
+returns-then-book-list c =
+    (simp (le-ltb _ _ c.if-size-gt64.false, lt-ltb _ _ c.if-book-list.true))
+    ∙ headed c.args.before c.args.book.now c.args.at (omega arith) (omega arith) (omega arith) (omega arith) (omega arith)

@@ -16,14 +16,17 @@ use Rattle.book_list.proofs.after_codec.Goals as goal
 pub returns-then-category-ne8 : goal.returns-then-category-ne8
 unfolding followers member
 returns-then-category-ne8 c =
-    left_other true (offer_test c.args.media) 7 _ _ _ _ _ (sym c.in-Whole.is ∙ c.element_at-element.ensures) (rw (ne_eqb _ 8 c.if-category-ne8.true))
+    left_other true (offer_test c.args.media) 7 _ _ _ _ _ (sym c.in-Whole.is ∙ c.element_at-element.ensures)
+    (rw (ne_eqb _ 8 c.if-category-ne8.true))
 
 -- delay reporting with a value
 pub returns-then-length-ne0 : goal.returns-then-length-ne0
 unfolding followers member
 returns-then-length-ne0 c =
-    left_refused true (offer_test c.args.media) 7 _ _ _ _ _ (sym c.in-Whole.is ∙ c.element_at-element.ensures) 8 c.if-category-ne8.false refl
-    (value_there c.args.media _ _ (value_length _ _ _ _ _ (sym c.in-Whole.is ∙ c.element_at-element.ensures)) 8 refl c.if-length-ne0.true)
+    left_refused true (offer_test c.args.media) 7 _ _ _ _ _ (sym c.in-Whole.is ∙ c.element_at-element.ensures) 8
+    c.if-category-ne8.false refl
+    (value_there c.args.media _ _ (value_length _ _ _ _ _ (sym c.in-Whole.is ∙ c.element_at-element.ensures)) 8 refl
+    c.if-length-ne0.true)
 
 pub overflow_add-result : goal.overflow_add-result
 overflow_add-result c =
@@ -44,5 +47,7 @@ pub returns-else-length-ne0 : goal.returns-else-length-ne0
 unfolding followers member
 returns-else-length-ne0 c =
     left_last true (offer_test c.args.media) c.args.list.now _
-    ∙ left_on true (offer_test c.args.media) 7 _ _ _ _ _ (sym c.in-Whole.is ∙ c.element_at-element.ensures) 8 c.if-category-ne8.false refl
-    (value_empty c.args.media _ _ (value_length _ _ _ _ _ (sym c.in-Whole.is ∙ c.element_at-element.ensures)) 8 refl refl c.if-length-ne0.false)
+    ∙ left_on true (offer_test c.args.media) 7 _ _ _ _ _ (sym c.in-Whole.is ∙ c.element_at-element.ensures) 8
+    c.if-category-ne8.false refl
+    (value_empty c.args.media _ _ (value_length _ _ _ _ _ (sym c.in-Whole.is ∙ c.element_at-element.ensures)) 8 refl refl
+    c.if-length-ne0.false)

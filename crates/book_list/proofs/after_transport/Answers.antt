@@ -17,7 +17,8 @@ use Rattle.book_list.proofs.after_transport.Goals as goal
 -- no whole element
 pub returns-in_default : goal.returns-in_default
 returns-in_default c =
-    left_none true (offer_test c.args.media) 1 c.args.list.now c.args.at refl _ c.element_at-element.ensures (opened c.in_default.in_default-own.keys2)
+    left_none true (offer_test c.args.media) 1 c.args.list.now c.args.at refl _ c.element_at-element.ensures
+    (opened c.in_default.in_default-own.keys2)
 
 pub codec_right-requires : goal.codec_right-requires
 codec_right-requires c =
@@ -27,21 +28,25 @@ codec_right-requires c =
 pub returns-then-category-eq7 : goal.returns-then-category-eq7
 unfolding followers member
 returns-then-category-eq7 c =
-    c.codec_right.ensures ∙ left_next true (offer_test c.args.media) 1 _ _ _ _ _ (sym c.in-Whole.is ∙ c.element_at-element.ensures) 7 c.if-category-eq7.true refl
+    c.codec_right.ensures ∙ left_next true (offer_test c.args.media) 1 _ _ _ _ _
+    (sym c.in-Whole.is ∙ c.element_at-element.ensures) 7 c.if-category-eq7.true refl
 
 -- neither codec nor reporting
 pub returns-then-category-ne2 : goal.returns-then-category-ne2
 unfolding followers member
 returns-then-category-ne2 c =
     c.after_protection.ensures
-    ∙ left_alike true (offer_test c.args.media) 4 1 _ _ _ _ _ (sym c.in-Whole.is ∙ c.element_at-element.ensures) (rw (ne_eqb _ 2 c.if-category-ne2.true))
+    ∙ left_alike true (offer_test c.args.media) 4 1 _ _ _ _ _ (sym c.in-Whole.is ∙ c.element_at-element.ensures)
+    (rw (ne_eqb _ 2 c.if-category-ne2.true))
 
 -- reporting with a value
 pub returns-then-length-ne0 : goal.returns-then-length-ne0
 unfolding followers member
 returns-then-length-ne0 c =
-    left_refused true (offer_test c.args.media) 1 _ _ _ _ _ (sym c.in-Whole.is ∙ c.element_at-element.ensures) 2 c.if-category-ne2.false refl
-    (value_there c.args.media _ _ (value_length _ _ _ _ _ (sym c.in-Whole.is ∙ c.element_at-element.ensures)) 2 refl c.if-length-ne0.true)
+    left_refused true (offer_test c.args.media) 1 _ _ _ _ _ (sym c.in-Whole.is ∙ c.element_at-element.ensures) 2
+    c.if-category-ne2.false refl
+    (value_there c.args.media _ _ (value_length _ _ _ _ _ (sym c.in-Whole.is ∙ c.element_at-element.ensures)) 2 refl
+    c.if-length-ne0.true)
 
 pub overflow_add-first : goal.overflow_add-first
 overflow_add-first c =
@@ -53,5 +58,7 @@ unfolding followers member
 returns c =
     c.after_protection-2.ensures
     ∙ reporting_passed (offer_test c.args.media) _
-    ∙ left_on true (offer_test c.args.media) 1 _ _ _ _ _ (sym c.in-Whole.is ∙ c.element_at-element.ensures) 2 c.if-category-ne2.false refl
-    (value_empty c.args.media _ _ (value_length _ _ _ _ _ (sym c.in-Whole.is ∙ c.element_at-element.ensures)) 2 refl refl c.if-length-ne0.false)
+    ∙ left_on true (offer_test c.args.media) 1 _ _ _ _ _ (sym c.in-Whole.is ∙ c.element_at-element.ensures) 2
+    c.if-category-ne2.false refl
+    (value_empty c.args.media _ _ (value_length _ _ _ _ _ (sym c.in-Whole.is ∙ c.element_at-element.ensures)) 2 refl refl
+    c.if-length-ne0.false)

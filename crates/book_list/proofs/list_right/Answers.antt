@@ -17,22 +17,18 @@ use Rattle.book_list.proofs.list_right.Goals as goal
 -- no whole element
 pub returns-in_default : goal.returns-in_default
 returns-in_default c =
-    left_none true (offer_test c.args.media) 0 c.args.list.now 0 refl _ c.element_at-element.ensures (opened c.in_default.in_default-own.keys2)
-    ∙ sym (list_in_order c.args.media _)
-
--- another category
-pub returns-then-category-ne1 : goal.returns-then-category-ne1
-unfolding followers member
-returns-then-category-ne1 c =
-    left_other true (offer_test c.args.media) 0 _ _ _ _ _ (sym c.in-Whole.is ∙ c.element_at-element.ensures) (rw (ne_eqb _ 1 c.if-category-ne1.true))
+    left_none true (offer_test c.args.media) 0 c.args.list.now 0 refl _ c.element_at-element.ensures
+    (opened c.in_default.in_default-own.keys2)
     ∙ sym (list_in_order c.args.media _)
 
 -- a media transport with a value
 pub returns-then-length-ne0 : goal.returns-then-length-ne0
 unfolding followers member
 returns-then-length-ne0 c =
-    left_refused true (offer_test c.args.media) 0 _ _ _ _ _ (sym c.in-Whole.is ∙ c.element_at-element.ensures) 1 c.if-category-ne1.false refl
-    (value_there c.args.media _ _ (value_length _ _ _ _ _ (sym c.in-Whole.is ∙ c.element_at-element.ensures)) 1 refl c.if-length-ne0.true)
+    left_refused true (offer_test c.args.media) 0 _ _ _ _ _ (sym c.in-Whole.is ∙ c.element_at-element.ensures) 1 (omega arith)
+    refl
+    (value_there c.args.media _ _ (value_length _ _ _ _ _ (sym c.in-Whole.is ∙ c.element_at-element.ensures)) 1 refl
+    c.if-length-ne0.true)
     ∙ sym (list_in_order c.args.media _)
 
 pub overflow_add-first : goal.overflow_add-first
@@ -44,6 +40,15 @@ pub returns : goal.returns
 unfolding followers member
 returns c =
     c.after_transport.ensures
-    ∙ left_on true (offer_test c.args.media) 0 _ _ _ _ _ (sym c.in-Whole.is ∙ c.element_at-element.ensures) 1 c.if-category-ne1.false refl
-    (value_empty c.args.media _ _ (value_length _ _ _ _ _ (sym c.in-Whole.is ∙ c.element_at-element.ensures)) 1 refl refl c.if-length-ne0.false)
+    ∙ left_on true (offer_test c.args.media) 0 _ _ _ _ _ (sym c.in-Whole.is ∙ c.element_at-element.ensures) 1 (omega arith) refl
+    (value_empty c.args.media _ _ (value_length _ _ _ _ _ (sym c.in-Whole.is ∙ c.element_at-element.ensures)) 1 refl refl
+    c.if-length-ne0.false)
+    ∙ sym (list_in_order c.args.media _)
+
+-- another category
+pub returns-then-category-ne1 : goal.returns-then-category-ne1
+unfolding followers member
+returns-then-category-ne1 c =
+    left_other true (offer_test c.args.media) 0 _ _ _ _ _ (sym c.in-Whole.is ∙ c.element_at-element.ensures)
+    (rw (ne_eqb _ 1 c.if-category-ne1.true))
     ∙ sym (list_in_order c.args.media _)

@@ -14,7 +14,7 @@ returns-then-left-lt2 c =
 
 pub overflow_cast-length : goal.overflow_cast-length
 overflow_cast-length c =
-    omega (arith, c.shared_slice_known-2-1.given (c.args.at + 1))
+    omega (arith, c.type_inv.list (c.args.at + 1))
 
 pub returns-then-length-left : goal.returns-then-length-left
 returns-then-length-left c =

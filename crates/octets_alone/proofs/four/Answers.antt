@@ -6,44 +6,50 @@ use Rattle.octets_alone.proofs.four.Goals as goal
 
 pub overflow_cast-result : goal.overflow_cast-result
 overflow_cast-result c =
-    omega (arith, c.shared_slice_known-1.given c.args.at)
+    omega (arith, c.type_inv.s c.args.at)
 
 pub overflow_cast-result-2 : goal.overflow_cast-result-2
 overflow_cast-result-2 c =
-    omega (arith, c.shared_slice_known-2-1.given (c.args.at + 1))
+    omega (arith, c.type_inv.s (c.args.at + 1))
 
 pub overflow_mul-result : goal.overflow_mul-result
 overflow_mul-result c =
-    omega (arith, c.shared_slice_known-2-1.given (c.args.at + 1))
+    omega (arith, c.type_inv.s (c.args.at + 1))
 
 pub overflow_add-result-2 : goal.overflow_add-result-2
 overflow_add-result-2 c =
-    omega (arith, c.shared_slice_known-2-1.given c.args.at, c.shared_slice_known-2-1.given (c.args.at + 1))
+    omega (arith, c.type_inv.s c.args.at, c.type_inv.s (c.args.at + 1))
 
 pub overflow_cast-result-3 : goal.overflow_cast-result-3
 overflow_cast-result-3 c =
-    omega (arith, c.shared_slice_known-3-1.given (c.args.at + 2))
+    omega (arith, c.type_inv.s (c.args.at + 2))
 
 pub overflow_mul-result-2 : goal.overflow_mul-result-2
 overflow_mul-result-2 c =
-    omega (arith, c.shared_slice_known-3-1.given (c.args.at + 2))
+    omega (arith, c.type_inv.s (c.args.at + 2))
 
 pub overflow_add-result-4 : goal.overflow_add-result-4
 overflow_add-result-4 c =
-    omega (arith, c.shared_slice_known-3-1.given c.args.at, c.shared_slice_known-3-1.given (c.args.at + 1), c.shared_slice_known-3-1.given (c.args.at + 2))
+    omega (arith, c.type_inv.s c.args.at, c.type_inv.s (c.args.at + 1), c.type_inv.s (c.args.at + 2))
 
 pub overflow_cast-result-4 : goal.overflow_cast-result-4
 overflow_cast-result-4 c =
-    omega (arith, c.shared_slice_known-4-1.given (c.args.at + 3))
+    omega (arith, c.type_inv.s (c.args.at + 3))
 
 pub overflow_mul-result-3 : goal.overflow_mul-result-3
 overflow_mul-result-3 c =
-    omega (arith, c.shared_slice_known-4-1.given (c.args.at + 3))
+    omega (arith, c.type_inv.s (c.args.at + 3))
 
 pub overflow_add-result-6 : goal.overflow_add-result-6
 overflow_add-result-6 c =
-    omega (arith, c.shared_slice_known-4-1.given c.args.at, c.shared_slice_known-4-1.given (c.args.at + 1), c.shared_slice_known-4-1.given (c.args.at + 2), c.shared_slice_known-4-1.given (c.args.at + 3))
+    omega (
+      arith,
+      c.type_inv.s c.args.at,
+      c.type_inv.s (c.args.at + 1),
+      c.type_inv.s (c.args.at + 2),
+      c.type_inv.s (c.args.at + 3),
+    )
 
 pub returns : goal.returns
 returns c =
-    four_weighed c.args.s.now c.args.at _ c.requires (c.shared_slice_known-4-1.given c.args.at).fits (omega arith)
+    four_weighed c.args.s.now c.args.at _ c.requires (c.type_inv.s c.args.at).fits (omega arith)

@@ -11,7 +11,7 @@ use Rattle.packets_cut.proofs.Cutter.{size_small, size_large, size_right_lem, Nu
 use Rattle.packets_cut.proofs.Cutter.{too_high, label_large, type_large, signal_large, header_small, from_within}
 use Rattle.packets_cut.proofs.Cutter.{too_short, writes}
 use Rattle.packets_cut.proofs.cut.Goals as goal
-use Rattle.packets_cut.proofs.cut.Goals.{After-header_size-head_size, Else-signal-gt63, Else-total-index}
+use Rattle.packets_cut.proofs.cut.Goals.{After-header_size-head_size, Else-total-index}
 
 -- ---- The message, and a refusal of it, which tells its number and leaves the area
 
@@ -22,7 +22,8 @@ message label mtype signal payload =
 -- ---- What is known once the test on the number of the packet has passed, then the tests on the message, then the sizes
 
 numbered_at : (c : Else-total-index)
-    → Numbered c.args.size (message c.args.label c.args.mtype c.args.signal c.args.payload.now) c.args.index c.packets-total.result
+    → Numbered c.args.size (message c.args.label c.args.mtype c.args.signal c.args.payload.now) c.args.index
+    c.packets-total.result
 numbered_at c =
     numbered c.args.size (message c.args.label c.args.mtype c.args.signal c.args.payload.now) c.args.index c.packets-total.result
     (size_right_lem c.args.size (omega arith) (omega arith)) c.packets-total.ensures c.if-total-index.false
@@ -30,47 +31,55 @@ numbered_at c =
 total_small : (c : Else-total-index) → c.packets-total.result ≤ 255
 total_small c =
     let n = numbered_at c in
-    omega (arith, n.whole, count_small c.args.size (message c.args.label c.args.mtype c.args.signal c.args.payload.now) n.right n.short)
+    omega (
+      arith,
+      n.whole,
+      count_small c.args.size (message c.args.label c.args.mtype c.args.signal c.args.payload.now) n.right
+          n.short,
+    )
 
-room_at : (c : Else-signal-gt63) → HasRoom (message c.args.label c.args.mtype c.args.signal c.args.payload.now)
+room_at : (c : After-header_size-head_size) → HasRoom (message c.args.label c.args.mtype c.args.signal c.args.payload.now)
 room_at c = omega arith
 
 head_small : (c : After-header_size-head_size) → c.header_size-head_size.result ≤ 3
 head_small c =
     omega (arith, c.header_size-head_size.ensures, header_small c.packets-total.result c.args.index)
 
--- ---- The needs
+-- ---- The goals
 
 pub returns-then-size-lt48 : goal.returns-then-size-lt48
 returns-then-size-lt48 c =
-    refuses c.args.size (message c.args.label c.args.mtype c.args.signal c.args.payload.now) c.args.index c.args.area.now c.refused.result 8 c.refused.ensures refl
-    (wrong_size c.args.size (message c.args.label c.args.mtype c.args.signal c.args.payload.now) c.args.index c.args.area.now (size_small c.args.size c.if-size-lt48.true))
+    refuses c.args.size (message c.args.label c.args.mtype c.args.signal c.args.payload.now) c.args.index c.args.area.now
+    c.refused.result 8 c.refused.ensures refl
+    (wrong_size c.args.size (message c.args.label c.args.mtype c.args.signal c.args.payload.now) c.args.index c.args.area.now
+    (size_small c.args.size c.if-size-lt48.true))
 
 pub returns-then-size-gt672 : goal.returns-then-size-gt672
 returns-then-size-gt672 c =
-    refuses c.args.size (message c.args.label c.args.mtype c.args.signal c.args.payload.now) c.args.index c.args.area.now c.refused-then-size-gt672.result 8 c.refused-then-size-gt672.ensures refl
-    (wrong_size c.args.size (message c.args.label c.args.mtype c.args.signal c.args.payload.now) c.args.index c.args.area.now (size_large c.args.size c.if-size-gt672.true))
+    refuses c.args.size (message c.args.label c.args.mtype c.args.signal c.args.payload.now) c.args.index c.args.area.now
+    c.refused-then-size-gt672.result 8 c.refused-then-size-gt672.ensures refl
+    (wrong_size c.args.size (message c.args.label c.args.mtype c.args.signal c.args.payload.now) c.args.index c.args.area.now
+    (size_large c.args.size c.if-size-gt672.true))
 
 pub returns-then-total-index : goal.returns-then-total-index
 returns-then-total-index c =
-    refuses c.args.size (message c.args.label c.args.mtype c.args.signal c.args.payload.now) c.args.index c.args.area.now c.refused-then-total-index.result 11 c.refused-then-total-index.ensures refl
-    (too_high c.args.size (message c.args.label c.args.mtype c.args.signal c.args.payload.now) c.args.index c.args.area.now c.packets-total.result
+    refuses c.args.size (message c.args.label c.args.mtype c.args.signal c.args.payload.now) c.args.index c.args.area.now
+    c.refused-then-total-index.result 11 c.refused-then-total-index.ensures refl
+    (too_high c.args.size (message c.args.label c.args.mtype c.args.signal c.args.payload.now) c.args.index c.args.area.now
+    c.packets-total.result
     (size_right_lem c.args.size (omega arith) (omega arith)) c.packets-total.ensures c.if-total-index.true)
 
 pub returns-then-label-gt15 : goal.returns-then-label-gt15
 returns-then-label-gt15 c =
-    refuses c.args.size (message c.args.label c.args.mtype c.args.signal c.args.payload.now) c.args.index c.args.area.now c.refused-then-label-gt15.result 11 c.refused-then-label-gt15.ensures refl
+    refuses c.args.size (message c.args.label c.args.mtype c.args.signal c.args.payload.now) c.args.index c.args.area.now
+    c.refused-then-label-gt15.result 11 c.refused-then-label-gt15.ensures refl
     (label_large (numbered_at (goal.at.returns-then-label-gt15 c).Else-total-index) c.args.area.now (omega arith))
 
 pub returns-then-mtype-gt3 : goal.returns-then-mtype-gt3
 returns-then-mtype-gt3 c =
-    refuses c.args.size (message c.args.label c.args.mtype c.args.signal c.args.payload.now) c.args.index c.args.area.now c.refused-then-mtype-gt3.result 11 c.refused-then-mtype-gt3.ensures refl
+    refuses c.args.size (message c.args.label c.args.mtype c.args.signal c.args.payload.now) c.args.index c.args.area.now
+    c.refused-then-mtype-gt3.result 11 c.refused-then-mtype-gt3.ensures refl
     (type_large (numbered_at (goal.at.returns-then-mtype-gt3 c).Else-total-index) c.args.area.now (omega arith) (omega arith))
-
-pub returns-then-signal-gt63 : goal.returns-then-signal-gt63
-returns-then-signal-gt63 c =
-    refuses c.args.size (message c.args.label c.args.mtype c.args.signal c.args.payload.now) c.args.index c.args.area.now c.refused-then-signal-gt63.result 11 c.refused-then-signal-gt63.ensures refl
-    (signal_large (numbered_at (goal.at.returns-then-signal-gt63 c).Else-total-index) c.args.area.now (omega arith) (omega arith) (omega arith))
 
 pub offset-from-requires : goal.offset-from-requires
 offset-from-requires c =
@@ -87,8 +96,10 @@ overflow_sub-payload c =
 
 pub returns-then-area-head_size : goal.returns-then-area-head_size
 returns-then-area-head_size c =
-    refuses c.args.size (message c.args.label c.args.mtype c.args.signal c.args.payload.now) c.args.index c.args.area.now c.refused-then-area-head_size.result 9 c.refused-then-area-head_size.ensures refl
-    (too_short (numbered_at (goal.at.returns-then-area-head_size c).Else-total-index) (room_at (goal.at.returns-then-area-head_size c).Else-signal-gt63) c.args.area.now
+    refuses c.args.size (message c.args.label c.args.mtype c.args.signal c.args.payload.now) c.args.index c.args.area.now
+    c.refused-then-area-head_size.result 9 c.refused-then-area-head_size.ensures refl
+    (too_short (numbered_at (goal.at.returns-then-area-head_size c).Else-total-index)
+    (room_at (goal.at.returns-then-area-head_size c).After-header_size-head_size) c.args.area.now
     c.header_size-head_size.result c.offset-from.result c.least-part_size.result
     c.header_size-head_size.ensures c.offset-from.ensures c.least-part_size.ensures
     c.if-area-head_size.true)
@@ -106,12 +117,22 @@ put_header-requires c =
 
 pub part-requires : goal.part-requires
 part-requires c =
-    omega (arith, c.offset-from.ensures, c.least-part_size.ensures, from_within (numbered_at (goal.at.part-requires c).Else-total-index))
+    omega (
+      arith,
+      c.offset-from.ensures,
+      c.least-part_size.ensures,
+      from_within (numbered_at (goal.at.part-requires c).Else-total-index),
+    )
 
 pub put-requires : goal.put-requires
 put-requires c =
     let within : c.offset-from.result + c.least-part_size.result ≤ length c.args.payload.now =
-    omega (arith, c.offset-from.ensures, c.least-part_size.ensures, from_within (numbered_at (goal.at.put-requires c).Else-total-index)) in
+    omega (
+      arith,
+      c.offset-from.ensures,
+      c.least-part_size.ensures,
+      from_within (numbered_at (goal.at.put-requires c).Else-total-index),
+    ) in
     omega (
       arith,
       c.if-area-head_size.false,
@@ -121,9 +142,17 @@ put-requires c =
 
 pub returns : goal.returns
 returns c =
-    writes (numbered_at (goal.at.returns c).Else-total-index) (room_at (goal.at.returns c).Else-signal-gt63) c.args.area.now
+    writes (numbered_at (goal.at.returns c).Else-total-index) (room_at (goal.at.returns c).After-header_size-head_size)
+    c.args.area.now
     c.header_size-head_size.result c.offset-from.result c.least-part_size.result
     c.header_size-head_size.ensures c.offset-from.ensures c.least-part_size.ensures
     c.part.result.now c.put_header.new.area c.put.new.dst
     c.part.ensures (c.put_header.ensures c.args.payload.now) c.put.ensures
     c.if-area-head_size.false
+
+pub returns-then-signal-gt63 : goal.returns-then-signal-gt63
+returns-then-signal-gt63 c =
+    refuses c.args.size (message c.args.label c.args.mtype c.args.signal c.args.payload.now) c.args.index c.args.area.now
+    c.refused-then-signal-gt63.result 11 c.refused-then-signal-gt63.ensures refl
+    (signal_large (numbered_at (goal.at.returns-then-signal-gt63 c).Else-total-index) c.args.area.now (omega arith)
+    (omega arith) (omega arith))

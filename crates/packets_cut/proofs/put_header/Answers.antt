@@ -77,7 +77,9 @@ bounds-area-0 c =
 
 pub returns-then-index-total : goal.returns-then-index-total
 returns-then-index-total c =
-    λ p. stored (goal.at.returns-then-index-total c).Start p (continues (message (goal.at.returns-then-index-total c).Start p) c.args.total c.args.index c.if-index-ne0.true c.if-index-total.true)
+    λ p. stored (goal.at.returns-then-index-total c).Start p
+    (continues (message (goal.at.returns-then-index-total c).Start p) c.args.total c.args.index c.if-index-ne0.true
+    c.if-index-total.true)
     (further_fits (goal.at.returns-then-index-total c).Then-index-ne0)
 
 pub bounds-area-0-then-index-ne0 : goal.bounds-area-0-then-index-ne0
@@ -86,7 +88,9 @@ bounds-area-0-then-index-ne0 c =
 
 pub returns-then-index-ne0 : goal.returns-then-index-ne0
 returns-then-index-ne0 c =
-    λ p. stored (goal.at.returns-then-index-ne0 c).Start p (ends (message (goal.at.returns-then-index-ne0 c).Start p) c.args.total c.args.index c.if-index-ne0.true c.if-index-total.false)
+    λ p. stored (goal.at.returns-then-index-ne0 c).Start p
+    (ends (message (goal.at.returns-then-index-ne0 c).Start p) c.args.total c.args.index c.if-index-ne0.true
+    c.if-index-total.false)
     (further_fits (goal.at.returns-then-index-ne0 c).Then-index-ne0)
 
 pub bounds-area-0-then-total-eq1 : goal.bounds-area-0-then-total-eq1
@@ -100,7 +104,10 @@ bounds-area-1 c =
 pub returns-then-total-eq1 : goal.returns-then-total-eq1
 returns-then-total-eq1 c =
     λ p.
-    stored (goal.at.returns-then-total-eq1 c).Start p (single (message (goal.at.returns-then-total-eq1 c).Start p) c.args.total c.args.index c.if-index-ne0.false c.if-total-eq1.true) (single_fits (goal.at.returns-then-total-eq1 c).Then-total-eq1)
+    stored (goal.at.returns-then-total-eq1 c).Start p
+    (single (message (goal.at.returns-then-total-eq1 c).Start p) c.args.total c.args.index c.if-index-ne0.false
+    c.if-total-eq1.true)
+    (single_fits (goal.at.returns-then-total-eq1 c).Then-total-eq1)
 
 pub bounds-area-0-2 : goal.bounds-area-0-2
 bounds-area-0-2 c =
@@ -116,4 +123,6 @@ bounds-area-2 c =
 
 pub returns : goal.returns
 returns c =
-    λ p. stored (goal.at.returns c).Start p (starts (message (goal.at.returns c).Start p) c.args.total c.args.index c.if-index-ne0.false c.if-total-eq1.false) (start_fits (goal.at.returns c).Else-total-eq1)
+    λ p. stored (goal.at.returns c).Start p
+    (starts (message (goal.at.returns c).Start p) c.args.total c.args.index c.if-index-ne0.false c.if-total-eq1.false)
+    (start_fits (goal.at.returns c).Else-total-eq1)

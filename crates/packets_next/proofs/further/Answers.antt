@@ -110,7 +110,7 @@ found c =
     record {
       right = c.requires.room_right;
       there = c.if-room-eq0.false;
-      octet = omega (arith, c.shared_slice_known-4-1.given 0);
+      octet = omega (arith, c.type_inv.packet 0);
       label = c.if-packet-room.false;
       mtype = c.if-packet-room-2.false;
     }
@@ -127,7 +127,7 @@ returns-then-packet-room c =
 pub returns-then-packet-room-2 : goal.returns-then-packet-room-2
 returns-then-packet-room-2 c =
     other_type c.args.room.now c.args.packet.now c.args.last c.if-room-eq0.false
-    (omega (arith, c.shared_slice_known-4-1.given 0)) c.if-packet-room.false c.if-packet-room-2.true
+    (omega (arith, c.type_inv.packet 0)) c.if-packet-room.false c.if-packet-room-2.true
 
 pub overflow_add-gathered : goal.overflow_add-gathered
 overflow_add-gathered c =
@@ -135,11 +135,6 @@ overflow_add-gathered c =
     let few : c.gathered.result ≤ 512 =
     rw c.gathered.ensures (marked c.args.room.now f.right f.there).fits in
     omega arith
-
-pub returns-then-gathered-packet-gt512 : goal.returns-then-gathered-packet-gt512
-returns-then-gathered-packet-gt512 c =
-    too_long c.args.room.now c.args.packet.now c.args.last (found (goal.at.returns-then-gathered-packet-gt512 c).Else-packet-room-2)
-    (rw c.gathered.ensures at c.if-gathered-packet-gt512.true)
 
 pub overflow_cast-parts : goal.overflow_cast-parts
 overflow_cast-parts c =
@@ -156,19 +151,25 @@ overflow_cast-count c =
 pub returns-then-parts-count : goal.returns-then-parts-count
 returns-then-parts-count c =
     complete c.args.room.now c.args.packet.now c.args.last (found (goal.at.returns-then-parts-count c).Else-packet-room-2)
-    (rw c.gathered.ensures at c.if-gathered-packet-gt512.false) c.if-last.true c.if-parts-count.true
+    (omega arith) c.if-last.true c.if-parts-count.true
 
 pub returns-then-last : goal.returns-then-last
 returns-then-last c =
     not_last c.args.room.now c.args.packet.now c.args.last (found (goal.at.returns-then-last c).Else-packet-room-2)
-    (rw c.gathered.ensures at c.if-gathered-packet-gt512.false) c.if-last.true c.if-parts-count.false
+    (omega arith) c.if-last.true c.if-parts-count.false
 
 pub returns-then-parts-count-2 : goal.returns-then-parts-count-2
 returns-then-parts-count-2 c =
     more c.args.room.now c.args.packet.now c.args.last (found (goal.at.returns-then-parts-count-2 c).Else-packet-room-2)
-    (rw c.gathered.ensures at c.if-gathered-packet-gt512.false) c.if-last.false c.if-parts-count-2.true
+    (omega arith) c.if-last.false c.if-parts-count-2.true
 
 pub returns : goal.returns
 returns c =
     no_more c.args.room.now c.args.packet.now c.args.last (found (goal.at.returns c).Else-packet-room-2)
-    (rw c.gathered.ensures at c.if-gathered-packet-gt512.false) c.if-last.false c.if-parts-count-2.false
+    (omega arith) c.if-last.false c.if-parts-count-2.false
+
+pub returns-then-gathered-packet-gt512 : goal.returns-then-gathered-packet-gt512
+returns-then-gathered-packet-gt512 c =
+    too_long c.args.room.now c.args.packet.now c.args.last
+    (found (goal.at.returns-then-gathered-packet-gt512 c).Else-packet-room-2)
+    (rw c.gathered.ensures at c.if-gathered-packet-gt512.true)

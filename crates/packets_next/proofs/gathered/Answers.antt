@@ -16,4 +16,4 @@ overflow_cast-result-2 c =
 
 pub overflow_add-result : goal.overflow_add-result
 overflow_add-result c =
-    omega (arith, c.shared_slice_known-1.given 6, c.type_inv.room 7)
+    omega (arith, c.type_inv.room 6, c.type_inv.room 7)

@@ -7,13 +7,14 @@ use mathlib.Core.Path.{◌≡◌, ◌∙◌}
 use mathlib.Core.List.{List, [], ◌∷◌}
 use mathlib.Core.Option.{Option}
 use lib.ListN.{length, drop, get_or}
-use Rattle.rules.specs.Packets.{Gathering, PacketType, a_single, a_start, a_continue, an_end, packet_type_in, read_as, read, packet_in}
+use Rattle.rules.specs.Packets.{Gathering, PacketType, a_single, a_start, a_continue, an_end, packet_type_in, read_as, read}
+use Rattle.rules.specs.Packets.{packet_in}
 use Rattle.rules.specs.Saved.{gathering_in}
 use Rattle.packets_next.specs.Nexts.{next_by, next_of}
 use Rattle.packets_next.specs.declared.nexts.Next.{Next}
 use Rattle.packets_next.specs.declared.nexts.Next.TheVariants.{Ended}
 use Rattle.packets_next.proofs.next.Goals as goal
-use Rattle.packets_next.proofs.next.Goals.{After-shared_slice_known-3-1}
+use Rattle.packets_next.proofs.next.Goals.{Else-size-packet}
 
 -- the kinds, by their packet types
 abbrev packet_type_at : ℕ → PacketType
@@ -35,14 +36,11 @@ module _ (size : ℕ) (g : Option Gathering) where
   by_type [] n h k e = absurd (omega arith)
   by_type (x ∷ q) n h k e = rw (le-ltb size (length (x ∷ q)) k, e)
 
--- none of the first three is the last
-last_type : (n : ℕ) → (n % 4 ≡ 0 → ⊥) → (n % 4 ≡ 1 → ⊥) → (n % 4 ≡ 2 → ⊥) → n % 4 ≡ 3
-last_type n a b c = omega arith
-
 -- the answer of the callee for packet type n is the answer
-typed : (c : After-shared_slice_known-3-1) (n : ℕ) (r : Next)
+typed : (c : Else-size-packet) (n : ℕ) (r : Next)
     → let g = gathering_in c.args.room.now in
-    r ≡ next_by g (read_as (packet_type_at n) (get_or c.args.packet.now 0 0) (drop 1 c.args.packet.now)) → get_or c.args.packet.now 0 0 / 4 % 4 ≡ n → r ≡ next_of c.args.size g c.args.packet.now
+    r ≡ next_by g (read_as (packet_type_at n) (get_or c.args.packet.now 0 0) (drop 1 c.args.packet.now))
+    → get_or c.args.packet.now 0 0 / 4 % 4 ≡ n → r ≡ next_of c.args.size g c.args.packet.now
 typed c n r e t =
     e ∙ by_type c.args.size (gathering_in c.args.room.now) c.args.packet.now n (omega arith) (omega arith) t
 
@@ -56,18 +54,19 @@ returns-then-size-packet c =
 
 pub returns-in-0 : goal.returns-in-0
 returns-in-0 c =
-    typed (goal.at.returns-in-0 c).After-shared_slice_known-3-1 0 c.single.result (c.single.ensures _) c.in-0.is
+    typed (goal.at.returns-in-0 c).Else-size-packet 0 c.single.result (c.single.ensures _) c.in-0.is
 
 pub returns-in-1 : goal.returns-in-1
 returns-in-1 c =
-    typed (goal.at.returns-in-1 c).After-shared_slice_known-3-1 1 c.start.result (c.start.ensures _) c.in-1.is
+    typed (goal.at.returns-in-1 c).Else-size-packet 1 c.start.result (c.start.ensures _) c.in-1.is
 
 pub returns-in-2 : goal.returns-in-2
 unfolding next_by read_as
 returns-in-2 c =
-    typed (goal.at.returns-in-2 c).After-shared_slice_known-3-1 2 c.further.result c.further.ensures c.in-2.is
+    typed (goal.at.returns-in-2 c).Else-size-packet 2 c.further.result c.further.ensures c.in-2.is
 
 pub returns-in_default : goal.returns-in_default
 unfolding next_by read_as
 returns-in_default c =
-    typed (goal.at.returns-in_default c).After-shared_slice_known-3-1 3 c.further-in_default.result c.further-in_default.ensures (last_type _ c.in_default.in_default-own.rest.0.0.1 c.in_default.in_default-own.rest.0.1 c.in_default.in_default-own.rest.1)
+    typed (goal.at.returns-in_default c).Else-size-packet 3 c.further-in_default.result c.further-in_default.ensures
+    (omega arith)

@@ -53,10 +53,6 @@ pub returns-then-packet-lt3 : goal.returns-then-packet-lt3
 returns-then-packet-lt3 c =
     λ g. short g c.args.packet.now c.if-packet-lt3.true
 
-pub returns-then-packet-lt2 : goal.returns-then-packet-lt2
-returns-then-packet-lt2 c =
-    λ g. few g c.args.packet.now c.if-packet-lt2.true
-
 pub returns-then-packet-gt515 : goal.returns-then-packet-gt515
 returns-then-packet-gt515 c =
     λ g.
@@ -68,3 +64,7 @@ returns c =
     λ g.
     good g c.args.packet.now (omega arith) (omega arith) (omega arith)
     (omega (arith, c.type_inv.packet 1))
+
+pub returns-then-packet-lt2 : goal.returns-then-packet-lt2
+returns-then-packet-lt2 c =
+    λ g. few g c.args.packet.now c.if-packet-lt2.true

@@ -12,7 +12,8 @@ use Rattle.book.proofs.places.locate.Goals.{In-loop-index}
 at_hand : (c : In-loop-index)
     → RightEntry c.args.book.now c.loop-index.at
 at_hand c =
-    first_entry (c.count-entries.result - (c.loop-index.index + 1)) (c.count-entries.result - c.loop-index.index) _ c.loop-index.at (omega arith) c.loop-index.invariant.2
+    first_entry (c.count-entries.result - (c.loop-index.index + 1)) (c.count-entries.result - c.loop-index.index) _
+    c.loop-index.at (omega arith) c.loop-index.invariant.2
 
 pub count-entries-requires : goal.count-entries-requires
 count-entries-requires c =
@@ -58,7 +59,8 @@ bounds-book-at-then-book-at c =
 pub returns-then-book-at : goal.returns-then-book-at
 returns-then-book-at c =
     sym (c.loop-index.invariant.1
-    ∙ place_here (c.count-entries.result - (c.loop-index.index + 1)) (c.count-entries.result - c.loop-index.index) c.args.seid c.args.book.now c.loop-index.at c.loop-index.index
+    ∙ place_here (c.count-entries.result - (c.loop-index.index + 1)) (c.count-entries.result - c.loop-index.index) c.args.seid
+    c.args.book.now c.loop-index.at c.loop-index.index
     (omega arith) c.if-book-at.true)
 
 pub overflow_add-at : goal.overflow_add-at
@@ -70,11 +72,15 @@ loop-index-preserved c =
     let rest = c.count-entries.result - (c.loop-index.index + 1) in (
       omega arith,
       c.loop-index.invariant.1
-          ∙ place_later rest (c.count-entries.result - c.loop-index.index) c.args.seid c.args.book.now c.loop-index.at c.loop-index.index (omega arith)
+          ∙ place_later rest (c.count-entries.result - c.loop-index.index) c.args.seid c.args.book.now c.loop-index.at
+          c.loop-index.index (omega arith)
           c.if-book-at.false,
-      other_entries rest (c.count-entries.result - c.loop-index.index) c.args.book.now c.loop-index.at (omega arith) c.loop-index.invariant.2,
+      other_entries rest (c.count-entries.result - c.loop-index.index) c.args.book.now c.loop-index.at (omega arith)
+          c.loop-index.invariant.2,
     )
 
 pub returns : goal.returns
 returns c =
-    sym (c.loop-index.invariant.1 ∙ place_none (c.count-entries.result - c.loop-index.index) c.args.seid c.args.book.now c.loop-index.at c.loop-index.index (omega arith))
+    sym (c.loop-index.invariant.1
+    ∙ place_none (c.count-entries.result - c.loop-index.index) c.args.seid c.args.book.now c.loop-index.at c.loop-index.index
+    (omega arith))
