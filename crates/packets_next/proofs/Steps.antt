@@ -9,7 +9,8 @@ use mathlib.Core.Bool.{Bool, true, false, ◌&&◌}
 use mathlib.Core.Option.{Option, none, some}
 use lib.Dec.{leb, ltb, eqb}
 use lib.ListN.{length, drop, get_or}
-use Rattle.rules.specs.Octets.{if◌then◌else◌, between}
+use Rattle.rules.specs.Octets.{between}
+use Rattle.std.specs.Prelude.{if◌then◌else◌}
 use Rattle.rules.specs.Packets.{PacketType, a_single, a_start, a_continue, an_end, packet_type_in, label_in, mtype_in}
 use Rattle.rules.specs.Packets.{message_from}
 use Rattle.rules.specs.Packets.{read_as, read, packet_in, Gathering, Step, ended, completes, gathers, extended, begin, is_next}

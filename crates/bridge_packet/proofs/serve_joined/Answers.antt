@@ -46,8 +46,8 @@ assemble-length-requires c =
       packet_begun = c.requires.header;
       gathered_fits = subst (λ (x : List ℕ). pair_in (get_or x 6 0) (get_or x 7 0) ≤ 512) same_link c.requires.gathered;
       message_fits =
-        subst (λ (x : List ℕ). length (gathering_at x).message.payload + length (drop 1 c.args.packet.now) ≤ 512) same_link
-        c.requires.fits;
+          subst (λ (x : List ℕ). length (gathering_at x).message.payload + length (drop 1 c.args.packet.now) ≤ 512) same_link
+          c.requires.fits;
     }
 
 pub slice_bounds-serve-end : goal.slice_bounds-serve-end
