@@ -1,5 +1,5 @@
 -- Words for all that follows: comparing octets, and what a lent area holds after a write.
-use Rattle.std.specs.Prelude.{ℕ, List, [], ◌∷◌, ◌++◌, Bool, true, false, ◌&&◌, ◌||◌, length, drop, leb, ltb, eqb, if◌then◌else◌}
+use Rattle.std.specs.Prelude.{ℕ, List, [], ◌∷◌, ◌++◌, Bool, true, false, ◌&&◌, ◌||◌, length, drop, leb, ltb, eqb}
 
 -- least ≤ n ≤ most
 unfoldable pub between : ℕ → ℕ → ℕ → Bool

@@ -5,7 +5,7 @@ use mathlib.Core.List.{List}
 use mathlib.Core.Bool.{Bool, true, false}
 use native.Mathlib.Decide.{dec_lt}
 use native.Mathlib.Omega.{arith}
-use lib.ListN.{length, set}
+use lib.ListN.{length}
 use borrow.Author.Tests.{ne_eqb, eq-eqb}
 use Rattle.rules.specs.Endpoints.{Ends, end_at, is_awaited, awaiting, up_in, with_channel}
 use Rattle.rules.specs.Saved.{record_room, head_in, head_octets, ends_in, store_ends, record_at}
