@@ -19,7 +19,7 @@ told false = failed refl
 pub clash {ℓ} : {A : Type ℓ} {b : Bool} → b ≡ true → b ≡ false → A
 clash p q = absurd (true≢false (sym p ∙ q))
 
--- Both tests of a conjunction, and back. `search (and_l, and_r)` takes a long one apart, `search all-and` puts it together.
+-- Both tests of a conjunction, and back. `search (and_l, and_r)` takes a long one apart.
 pub and_l : (a b : Bool) → a && b ≡ true → a ≡ true
 and_l true b e = refl
 and_l false b e = e

@@ -1,4 +1,4 @@
--- `none_told_lem` meets its contract: zeros for sixteen packets.
+-- `none_told` meets its contract: zeros for sixteen packets.
 use mathlib.Core.Path.{ap}
 use lib.ListN.{replicate}
 use Rattle.rules.specs.Bursts.{filled, none_told}

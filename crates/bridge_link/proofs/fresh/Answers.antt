@@ -2,7 +2,6 @@
 use Prim.Native.Nat.{◌≤◌}
 use native.Mathlib.Omega.{arith}
 use mathlib.Core.Path.{◌≡◌, sym, ◌∙◌}
-use lib.ListN.{length-set}
 use Rattle.rules.specs.Book.{book_number}
 use Rattle.rules.proofs.RightBook.{right_book}
 use Rattle.bridge_link.proofs.Freshened.{fresh_refused, short_fresh, lent_room, freshened}
@@ -49,10 +48,6 @@ begin-requires c = (
 pub overflow_cast-saved : goal.overflow_cast-saved
 overflow_cast-saved c =
     omega (arith, few (goal.at.overflow_cast-saved c).After-count-entries)
-
-pub bounds-saved-1 : goal.bounds-saved-1
-bounds-saved-1 c =
-    simp length-set (omega (arith, c.saved-1.given.1, c.if-saved-entries.false))
 
 pub returns : goal.returns
 returns c =
