@@ -16,7 +16,7 @@ use Rattle.rules.specs.Elements.{items}
 use Rattle.rules.specs.Book.{kind_right, media_type, list_right, entries_number, book_number}
 use Rattle.rules.proofs.Tests.{Told?, told, passed, failed}
 use Rattle.rules.proofs.RightBook.{not_failed}
-use Rattle.book.specs.Entries.{entry_number}
+use Rattle.book.specs.Entries.{entry_number, RightEntry}
 
 -- ---- The first entry and those behind it
 
@@ -66,13 +66,6 @@ unfolding entries_number is_empty
 some_left before b at h = rw (drop-cons b at 0 h)
 
 -- ---- Right entries
-
--- an entry with the number 0
-pub record RightEntry (b : List ℕ) (at : ℕ) : Type 0 where
-  pub inside : at + 3 + get_or b (at + 2) 0 ≤ length b
-  pub short : get_or b (at + 2) 0 ≤ 64
-  pub kind : kind_right (get_or b (at + 1) 0) ≡ true
-  pub listed : list_right (media_type (get_or b (at + 1) 0)) (items (take (get_or b (at + 2) 0) (drop (at + 3) b))) ≡ true
 
 pub right_entry : (before : ℕ) (b : List ℕ) (at : ℕ) → entry_number before b at ≡ 0 → RightEntry b at
 unfolding entry_number

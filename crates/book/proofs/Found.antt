@@ -19,9 +19,10 @@ use Rattle.rules.proofs.Places.{At, find_known, at_inside}
 use Rattle.rules.proofs.ShortReplies.{entry_at}
 use Rattle.book.specs.Places.{known_at, place_from, place_in, found_by}
 use Rattle.book.specs.declared.places.Place.{Place}
-use Rattle.book.specs.declared.places.Located.{Located}
-use Rattle.book.specs.declared.places.Located.TheVariants.{Unknown}
-use Rattle.book.proofs.Entries.{RightEntry, RightEntries, first_entry, other_entries, right_head}
+use Rattle.std.specs.Prelude.{None}
+use Rattle.std.specs.declared.option.Option.{Option}
+use Rattle.book.specs.Entries.{RightEntry}
+use Rattle.book.proofs.Entries.{RightEntries, first_entry, other_entries, right_head}
 
 -- ---- A turn of the walk
 
@@ -35,7 +36,7 @@ module _ (n left : ℕ) (s : OurSeid) (b : List ℕ) (at i : ℕ) (e : left ≡ 
   unfolding place_from
   place_later h = rw (e, ne_eqb (get_or b at 0) s.0 h, add-one)
 
-pub place_none : (left : ℕ) (s : OurSeid) (b : List ℕ) (at i : ℕ) → left ≡ 0 → place_from left s b at i ≡ Unknown
+pub place_none : (left : ℕ) (s : OurSeid) (b : List ℕ) (at i : ℕ) → left ≡ 0 → place_from left s b at i ≡ None
 unfolding place_from
 place_none left s b at i e = rw e
 
@@ -88,8 +89,8 @@ found_in : (s : OurSeid) (b : List ℕ) → found_by s (place_in s b) b ≡ find
 unfolding place_in book_of
 found_in s b = found_from (get_or b 5 0) s b 6 0 ∙ counted_none _
 
-pub found_as : (s : OurSeid) (b : List ℕ) (p : Located) → place_in s b ≡ p → find s (book_of b) ≡ found_by s p b
-found_as s b p e = sym (found_in s b) ∙ ap (λ (x : Located). found_by s x b) e
+pub found_as : (s : OurSeid) (b : List ℕ) (p : Option Place) → place_in s b ≡ p → find s (book_of b) ≡ found_by s p b
+found_as s b p e = sym (found_in s b) ∙ ap (λ (x : Option Place). found_by s x b) e
 
 -- ---- What a place says of a right book
 

@@ -1,5 +1,5 @@
 -- One entry of a book as it is checked, by its place.
-use Rattle.std.specs.Prelude.{ℕ, ◌+◌, ◌-◌, List, not, ◌&&◌, length, take, drop, get_or, leb, ltb, if◌then◌else◌}
+use Rattle.std.specs.Prelude.{ℕ, ◌+◌, ◌-◌, ◌≤◌, ◌≡◌, List, true, not, ◌&&◌, length, take, drop, get_or, leb, ltb, if◌then◌else◌}
 use Rattle.rules.specs.Elements.{items}
 use Rattle.rules.specs.Book.{kind_right, media_type, list_right}
 
@@ -16,3 +16,10 @@ entry_number before b at =
     else if ltb (length b - (at + 3)) size then 1
     else if not (list_right (media_type kind) (items (take size (drop (at + 3) b)))) then 7
     else 0
+
+-- What the number 0 says of an entry.
+pub record RightEntry (b : List ℕ) (at : ℕ) : Type 0 where
+  pub inside : at + 3 + get_or b (at + 2) 0 ≤ length b
+  pub short : get_or b (at + 2) 0 ≤ 64
+  pub kind : kind_right (get_or b (at + 1) 0) ≡ true
+  pub listed : list_right (media_type (get_or b (at + 1) 0)) (items (take (get_or b (at + 2) 0) (drop (at + 3) b))) ≡ true

@@ -1,124 +1,41 @@
-// The list of an entry, walked by recursion on the octets left. What may follow an element hangs on its category alone, so there
-// is a function for each; only content protection may follow itself, and so only its function calls itself.
+// Whether the list of an entry is right: it is in order, and its elements pass the test of its media type.
 #![tactic(auto)]
 
-ghost use Rattle.std.specs.Prelude.{◌≡◌, true, ◌&&◌, ◌+◌, ◌≤◌, length, take, drop};
+ghost use Rattle.std.specs.Prelude.{◌≡◌, ◌≤◌, true};
 ghost use Rattle.rules.specs.Elements.{items};
 ghost use Rattle.rules.specs.Book.{list_right};
-ghost use Rattle.elements_reader.specs.Orders.{in_order, offer_test};
+ghost use Rattle.elements_reader.specs.Orders.{offer_test};
 
-use elements_reader::{Element, element_at};
+use elements_offers::length_code;
+use elements_order::{Test, in_order};
 
-// What is left behind the codec: delay reporting, or nothing.
-fn after_codec(media: u8, list: &[u8], at: usize) -> bool
-    ensures { result ≡ in_order true (offer_test media) 7 (items (drop at list.now)) }
-{
-    let element = element_at(list, at);
-    match element {
-        Element::End => true,
-        Element::Short { category: _ } => false,
-        Element::Whole {
-            category,
-            length,
-            first,
-        } => {
-            if category != 8 {
-                return false;
-            }
-            if length != 0 {
-                return false;
-            }
-            list.len() <= first + length
-        }
-    }
+// What is asked of the elements of an entry with this media type.
+#[derive(Clone, Copy)]
+struct OfMedia {
+    media: u8,
+    ghost fits: { media ≤ 15 },
 }
 
-// The codec, whose value of `size` octets stands at `first`, and what is left behind it.
-fn codec_right(media: u8, list: &[u8], first: usize, size: usize) -> bool
-    requires { (media ≤ 15) × (first + size ≤ length list.now) }
-    ensures { result ≡ (offer_test media 7 (take size (drop first list.now))
-        && in_order true (offer_test media) 7 (items (drop (first + size) list.now))) }
-{
-    if size < 2 {
-        return false;
-    }
-    if list[first] != media * 16 {
-        return false;
-    }
-    after_codec(media, list, first + size)
-}
+impl Test for OfMedia {
+    ghost again = { true };
 
-// What is left behind content protection: more of it, or the codec.
-fn after_protection(media: u8, list: &[u8], at: usize) -> bool
-    requires { media ≤ 15 }
-    ensures { result ≡ in_order true (offer_test media) 4 (items (drop at list.now)) }
-{
-    let element = element_at(list, at);
-    let Element::Whole {
-        category,
-        length,
-        first,
-    } = element
-    else {
-        return false;
-    };
-    if category == 7 {
-        return codec_right(media, list, first, length);
-    }
-    if category != 4 {
-        return false;
-    }
-    if length < 2 {
-        return false;
-    }
-    after_protection(media, list, first + length)
-}
+    ghost passes = { λ t. offer_test t.media };
 
-// What is left behind the media transport: reporting, and then what may be left behind content protection.
-fn after_transport(media: u8, list: &[u8], at: usize) -> bool
-    requires { media ≤ 15 }
-    ensures { result ≡ in_order true (offer_test media) 1 (items (drop at list.now)) }
-{
-    let element = element_at(list, at);
-    let Element::Whole {
-        category,
-        length,
-        first,
-    } = element
-    else {
-        return false;
-    };
-    if category == 7 {
-        return codec_right(media, list, first, length);
+    fn again(self) -> bool {
+        true
     }
-    if category != 2 {
-        return after_protection(media, list, at);
+
+    #[tactic(auto, unfolding(elements_reader::specs::Orders::offer_test, rules::specs::Elements::start_right))]
+    fn passes(self, category: u8, value: &[u8]) -> bool {
+        length_code(category, value.len()).is_ok() && (category != 7 || value[0] == self.media * 16)
     }
-    if length != 0 {
-        return false;
-    }
-    after_protection(media, list, first + length)
 }
 
 // Whether a list is right as the offer of an entry with this media type.
+#[tactic(auto, using(elements_reader::proofs::InOrder::list_in_order))]
 pub fn list_right(media: u8, list: &[u8]) -> bool
     requires { media ≤ 15 }
     ensures { result ≡ list_right media (items list.now) }
 {
-    let element = element_at(list, 0);
-    let Element::Whole {
-        category,
-        length,
-        first,
-    } = element
-    else {
-        return false;
-    };
-    if category != 1 {
-        return false;
-    }
-    if length != 0 {
-        return false;
-    }
-    after_transport(media, list, first + length)
+    in_order(OfMedia { media }, list, 0)
 }

@@ -1,25 +1,31 @@
 // The public calls. None asks anything of its caller: every book, size, saved connection, packet and area gets an answer, and a
-// refusal leaves every octet of every lent area. The numbers are those of documents 01 and 02: 1 to 7 the book, 8 the packet
-// size, 9 an area too short, 10 an event or a question that does not apply, 11 a message that is not to be cut, 12 the saved
-// connection, 13 a burst of more than 16 packets, 0 done.
+// refusal leaves every octet of every lent area. What a host in C is told as a struct (`Told`, `Burst`, `Heard`, `Piece`,
+// and `Standing` by `status_call`) is a struct here too: it has the number of the refusal in it, 0 where the call was not
+// refused.
 #![tactic(auto)]
 
 ghost use Rattle.std.specs.Prelude.{◌≡◌};
 ghost use Rattle.rules.specs.Host.{check_call, settings_call, delay_call, status_call, packets_call};
 ghost use Rattle.rules.specs.Calls.{Freshens, Takes, TakesAll, Happens, Cuts};
+ghost use Rattle.rules.specs.Refusals.{number_told};
 
-use rules::{Burst, Event, Heard, OurSeid, Piece, Standing, Told};
+use bridge_refusals::{burst_refusal, packet_refusal};
+use rules::refusals::Refusal;
+use rules::{Burst, Event, Header, Heard, OurSeid, Piece, Standing, Told};
 
-// Whether a book is right: 0, or its number.
-pub fn check(book: &[u8]) -> u8
-    ensures { result ≡ check_call book.now }
+// Whether a book is right.
+#[tactic(auto, unfolding(rules::specs::Host::check_call), using(rules::proofs::Refusing::handed_on))]
+pub fn check(book: &[u8]) -> Result<(), Refusal>
+    ensures { number_told result ≡ check_call book.now }
 {
-    book_check::check(book)
+    book_check::check(book)?;
+    Ok(())
 }
 
-// Begins: `saved` holds a fresh connection over the book, every endpoint idle and nothing gathered. An area too short is 12.
-pub fn fresh(book: &[u8], saved: &mut [u8]) -> u8
-    ensures { Freshens book.now saved.old result saved.new }
+// Begins: `saved` holds a fresh connection over the book, every endpoint idle and nothing gathered. An area too short is refused
+// as a saved connection is.
+pub fn fresh(book: &[u8], saved: &mut [u8]) -> Result<(), Refusal>
+    ensures { Freshens book.now saved.old (number_told result) saved.new }
 {
     bridge_link::fresh(book, saved)
 }
@@ -29,11 +35,10 @@ pub fn packet(book: &[u8], size: usize, saved: &mut [u8], packet: &[u8], reply: 
     ensures { Takes book.now size saved.old packet.now reply.old
         result saved.new reply.new }
 {
-    let number = bridge_refusals::packet_refusal(book, size, saved, reply);
-    if number != 0 {
-        return bridge_packet::nothing(number);
+    match packet_refusal(book, size, saved, reply) {
+        Ok(right) => bridge_packet::take(right, size, saved, packet, reply),
+        Err(refusal) => bridge_packet::nothing(u8::from(refusal)),
     }
-    bridge_packet::take(book, size, saved, packet, reply)
 }
 
 // Takes up to 16 packets, which lie one behind the other in `octets`; `lengths` has the length of each. The reply's payload of
@@ -49,16 +54,15 @@ pub fn burst(
     ensures { TakesAll book.now size saved.old octets.now lengths.now
         reply.old result saved.new reply.new }
 {
-    let number = bridge_refusals::burst_refusal(book, size, saved, lengths, reply);
-    if number != 0 {
-        return bridge_burst::none_told(number);
+    match burst_refusal(book, size, saved, lengths, reply) {
+        Ok(right) => bridge_burst::take_all(right, size, saved, octets, lengths, reply),
+        Err(refusal) => bridge_burst::none_told(u8::from(refusal)),
     }
-    bridge_burst::take_all(book, size, saved, octets, lengths, reply)
 }
 
 // Takes a link event: the awaited channel is up, the channel of one of our SEIDs is down, the link is lost.
-pub fn event(book: &[u8], saved: &mut [u8], event: Event) -> u8
-    ensures { Happens book.now saved.old event result saved.new }
+pub fn event(book: &[u8], saved: &mut [u8], event: Event) -> Result<(), Refusal>
+    ensures { Happens book.now saved.old event (number_told result) saved.new }
 {
     bridge_link::event(book, saved, event)
 }
@@ -71,9 +75,9 @@ pub fn settings<'a>(book: &'a [u8], saved: &'a [u8], seid: OurSeid) -> &'a [u8]
     bridge_questions::settings(book, saved, seid)
 }
 
-// The number of that question.
-pub fn settings_told(book: &[u8], saved: &[u8], seid: OurSeid) -> u8
-    ensures { result ≡ (settings_call book.now saved.now seid).number }
+// Why that question is refused.
+pub fn settings_told(book: &[u8], saved: &[u8], seid: OurSeid) -> Result<(), Refusal>
+    ensures { number_told result ≡ (settings_call book.now saved.now seid).number }
 {
     bridge_questions::settings_told(book, saved, seid)
 }
@@ -92,7 +96,7 @@ pub fn status(book: &[u8], saved: &[u8], seid: OurSeid) -> Standing
     bridge_questions::status(book, saved, seid)
 }
 
-// How many packets a payload of this length takes, 0 where the size or the length is refused.
+// How many packets a payload of this length takes, 0 where the size or the length is refused: the number that C is told.
 pub fn packets(size: usize, length: usize) -> usize
     ensures { result ≡ packets_call size length }
 {
@@ -100,16 +104,8 @@ pub fn packets(size: usize, length: usize) -> usize
 }
 
 // Writes packet number `index` of a message, counted from 0, at the front of `area`.
-pub fn cut(
-    size: usize,
-    label: u8,
-    mtype: u8,
-    signal: u8,
-    payload: &[u8],
-    index: usize,
-    area: &mut [u8],
-) -> Piece
-    ensures { Cuts size label mtype signal payload.now index area.old result area.new }
+pub fn cut(size: usize, header: Header, payload: &[u8], index: usize, area: &mut [u8]) -> Piece
+    ensures { Cuts size header.label header.mtype header.signal payload.now index area.old result area.new }
 {
-    packets_cut::cut(size, label, mtype, signal, payload, index, area)
+    packets_cut::cut(size, header, payload, index, area)
 }

@@ -1,56 +1,24 @@
 -- How far a burst has got: what is told of the packets taken and what stands in their 64 octets each, before what the packets
 -- left come to on the areas as they are, is what all of them come to. A packet more moves one from what is left to what is done.
-use Prim.Native.Nat.{ℕ, suc, ◌+◌, ◌-◌, ◌*◌, ◌≤◌, ◌<◌}
+use Prim.Native.Nat.{ℕ, suc, ◌+◌, ◌-◌, ◌*◌, ◌≤◌, ◌<◌, min}
 use native.Mathlib.Omega.{arith}
 use mathlib.Core.Path.{◌≡◌, refl, sym, ap, ap₂, ◌∙◌, subst}
 use mathlib.Core.List.{List, [], ◌∷◌, ◌++◌, append_assoc, append-nil}
 use mathlib.Core.Bool.{true}
 use lib.ListN.{length, take, drop, get_or, set, replicate, length-append, length-drop, take-append-drop, drop_of_length-le}
-use lib.Seq.{length-take-le, take_at, drop_at, drop-drop, drop-cons, append_snoc, set_at, take_all}
-use lib.Dec.{ltb}
-use borrow.Author.Tests.{ltb-true, ltb-false}
-use Rattle.std.specs.Prelude.{if◌then◌else◌}
+use lib.Seq.{length-take-le, take_at, drop_at, drop-drop, drop-cons, append_snoc, set_at}
+use Rattle.std.proofs.lemmas.List.{take_min, drop_min}
 use Rattle.rules.specs.Book.{book_of}
 use Rattle.rules.specs.Saved.{saved_right}
 use Rattle.rules.specs.Host.{nothing_said, Answered, packet_call}
 use Rattle.rules.specs.Bursts.{packets_in, slot, most_packets, Successive, and_then, successive, filled, BurstAnswered}
 use Rattle.rules.specs.Bursts.{burst_taken}
 use Rattle.rules.specs.declared.Told.{Told}
-use Rattle.rules.proofs.Tests.{Told?, passed, failed, told}
 use Rattle.rules.proofs.Unrefused.{BurstGiven}
 use Rattle.rules.proofs.Bursts.{successive_first}
 use Rattle.rules.proofs.OneByOne.{comes, next_right, first_slot}
 use Rattle.bridge_packet.specs.Taken.{taken_on}
-use Rattle.bridge_burst.specs.Slots.{taken_at, fitting, MayTakeAt}
-
--- ---- A length, or what is left
-
-module _ (l : List ℕ) (n : ℕ) where
-  pub fitting_within : fitting n (length l) ≤ length l
-  unfolding fitting
-  fitting_within = go (told (ltb n (length l)))
-    where
-      go : Told? (ltb n (length l)) → (if ltb n (length l) then n else length l) ≤ length l
-      go (passed t) = rw t (omega (arith, ltb-true n (length l) t))
-      go (failed f) = rw f (omega arith)
-
-  pub take_fitting : take (fitting n (length l)) l ≡ take n l
-  unfolding fitting
-  take_fitting = go (told (ltb n (length l)))
-    where
-      go : Told? (ltb n (length l)) → take (if ltb n (length l) then n else length l) l ≡ take n l
-      go (passed t) = rw t
-      go (failed f) = rw f (take_all (length l) l (omega arith) ∙ sym (take_all n l (ltb-false n (length l) f)))
-
-  pub drop_fitting : drop (fitting n (length l)) l ≡ drop n l
-  unfolding fitting
-  drop_fitting = go (told (ltb n (length l)))
-    where
-      go : Told? (ltb n (length l)) → drop (if ltb n (length l) then n else length l) l ≡ drop n l
-      go (passed t) = rw t
-      go (failed f) =
-          rw f
-          (drop_of_length-le l {i = length l} (omega arith) ∙ sym (drop_of_length-le l {i = n} (ltb-false n (length l) f)))
+use Rattle.bridge_burst.specs.Slots.{taken_at, MayTakeAt}
 
 -- ---- The 64 octets of a packet, lent and come back
 
@@ -98,7 +66,8 @@ module _ (book : List ℕ) (size : ℕ) (saved₀ octets lengths reply₀ : List
         ≡ thus done (take (i * slot) reply)
         (successive book size saved (packets_in (drop at octets) (drop i lengths)) (drop (i * slot) reply))
 
-  pub reached_first : saved_right (book_of book) saved₀ ≡ true → Reached (replicate most_packets (nothing_said 0)) saved₀ reply₀ 0 0
+  pub reached_first : saved_right (book_of book) saved₀ ≡ true
+      → Reached (replicate most_packets (nothing_said 0)) saved₀ reply₀ 0 0
   unfolding thus
   reached_first right =
       record { done = []; count = refl; told = refl; within = omega arith; right = right; long = refl; left = refl }
@@ -131,15 +100,11 @@ module _ (book : List ℕ) (size : ℕ) (saved₀ octets lengths reply₀ : List
     room_left = let few = given.few in let room = given.room in let long = r.long in omega arith
 
     pub may_take_at : MayTakeAt book saved (i * slot) reply
-    may_take_at = record { right = given.given.book; legal = r.right; room = room_left }
+    may_take_at = record { legal = r.right; room = room_left }
 
     -- the next packet takes its octets, and leaves the others behind it
-    pub next_within : (n : ℕ) → at + fitting n (length octets - at) ≤ length octets
-    next_within n =
-        let within = r.within in
-        let fits : fitting n (length octets - at) ≤ length octets - at =
-        subst (λ (k : ℕ). fitting n k ≤ k) (length-drop at octets) (fitting_within (drop at octets) n) in
-        omega arith
+    next_within : (n : ℕ) → at + min n (length octets - at) ≤ length octets
+    next_within n = let within = r.within in omega arith
 
     abbrev n : ℕ
     n = get_or lengths i 0
@@ -221,16 +186,16 @@ module _ (book : List ℕ) (size : ℕ) (saved₀ octets lengths reply₀ : List
         ∙ set_at r.done (nothing_said 0) (replicate (most_packets - (i + 1)) (nothing_said 0)) a.told i r.count
         ∙ sym (append_snoc r.done a.told (replicate (most_packets - (i + 1)) (nothing_said 0)))
 
-    module _ (taken : ℕ) (es : taken ≡ fitting n (length octets - at)) where
-      fitted : taken ≡ fitting n (length (drop at octets))
-      fitted = es ∙ ap (fitting n) (sym (length-drop at octets))
+    module _ (taken : ℕ) (es : taken ≡ min n (length octets - at)) where
+      fitted : taken ≡ min n (length (drop at octets))
+      fitted = es ∙ ap (min n) (sym (length-drop at octets))
 
       same_packet : take taken (drop at octets) ≡ take n (drop at octets)
-      same_packet = ap (λ (k : ℕ). take k (drop at octets)) fitted ∙ take_fitting (drop at octets) n
+      same_packet = ap (λ (k : ℕ). take k (drop at octets)) fitted ∙ take_min n (drop at octets)
 
       same_rest : drop n (drop at octets) ≡ drop (at + taken) octets
       same_rest =
-          sym (drop_fitting (drop at octets) n)
+          sym (drop_min n (drop at octets))
           ∙ ap (λ (k : ℕ). drop k (drop at octets)) (sym fitted)
           ∙ drop-drop taken at octets
 

@@ -1,14 +1,13 @@
 -- A packet of a burst on its own 64 octets of the reply area.
-use Rattle.std.specs.Prelude.{ℕ, ◌+◌, ◌≤◌, ◌≡◌, List, ◌++◌, true, length, take, drop, ltb, if◌then◌else◌}
-use Rattle.rules.specs.Book.{book_number, book_of}
+use Rattle.std.specs.Prelude.{ℕ, ◌+◌, ◌≤◌, ◌≡◌, List, ◌++◌, true, length, take, drop}
+use Rattle.rules.specs.Book.{book_of}
 use Rattle.rules.specs.Saved.{saved_right}
 use Rattle.rules.specs.Host.{Answered}
 use Rattle.rules.specs.Bursts.{slot}
 use Rattle.bridge_packet.specs.Taken.{taken_on}
 
--- a right book, a right saved area over it, and 64 octets from a place on
+-- a right saved area over a book that is right by its type, and 64 octets from a place on
 pub record MayTakeAt (book saved : List ℕ) (from : ℕ) (reply : List ℕ) : Type 0 where
-  pub right : book_number book ≡ 0
   pub legal : saved_right (book_of book) saved ≡ true
   pub room : from + slot ≤ length reply
 
@@ -20,7 +19,3 @@ taken_at book size saved p from reply =
       saved = a.saved;
       reply = take from reply ++ (a.reply ++ drop (from + slot) reply);
     }
-
--- a length, or what is left where the length goes past the end
-unfoldable pub fitting : ℕ → ℕ → ℕ
-fitting length left = if ltb length left then length else left

@@ -16,9 +16,12 @@ use Rattle.rules.specs.Endpoints.{happens}
 use Rattle.rules.specs.Saved.{count_room, link_room, records_place, link_of, records_of, ends_in, store_ends, gathering_in}
 use Rattle.rules.specs.Saved.{store_gathering, connection_in, store}
 use Rattle.rules.specs.Host.{number_or, refusal_of, event_call}
+use Rattle.rules.specs.Refusals.{number_of}
 use Rattle.rules.specs.declared.OurSeid.{OurSeid}
+use Rattle.rules.specs.declared.refusals.Refusal.{Refusal}
 use Rattle.rules.specs.declared.Event.{Event}
 use Rattle.rules.specs.declared.Event.TheVariants.{Up, Down, Lost}
+use Rattle.rules.proofs.Refusing.{never_0, refused_first}
 use Rattle.rules.proofs.Tests.{Told?, told, passed, failed}
 use Rattle.rules.proofs.SavedReads.{octets_take, octets_drop, gathering_kept, front_parts}
 use Rattle.rules.proofs.Places.{legal_length}
@@ -29,16 +32,17 @@ use Rattle.saved_events.specs.Events.{MovedRecords, upped, downed, downed_at, al
 use Rattle.rules.specs.Calls.{Happens}
 use Rattle.octets.proofs.Tails.{behind_whole, tail_back}
 use Rattle.bridge_link.proofs.RecordsBack.{cleared_back}
-use Rattle.bridge_refusals.proofs.Refusing.{number_first, Calm}
+use Rattle.bridge_refusals.proofs.Refusing.{Calm}
 
 module _ (book saved : List ℕ) where
-  pub event_refused : (e : Event) (n : ℕ) → n ≡ refusal_of book saved → (n ≡ 0 → ⊥) → Happens book saved e n saved
+  pub event_refused : (e : Event) (refusal : Refusal) → number_of refusal ≡ refusal_of book saved
+      → Happens book saved e (number_of refusal) saved
   unfolding event_call
-  event_refused e n r h =
+  event_refused e refusal r =
       let m = happens (book_of book) (connection_in (length (book_of book)) saved) e in
-      let same : n ≡ number_or (refusal_of book saved) m.number =
-      number_first n m.number h ∙ ap (λ (k : ℕ). number_or k m.number) r in
-      rw (← same, ne_eqb n 0 h)
+      let same : number_of refusal ≡ number_or (refusal_of book saved) m.number =
+      sym (refused_first refusal m.number) ∙ ap (λ (k : ℕ). number_or k m.number) r in
+      rw (← same, ne_eqb (number_of refusal) 0 (never_0 refusal))
 
   module _ (calm : Calm book saved) where
     abbrev lent : List ℕ
@@ -51,9 +55,9 @@ module _ (book saved : List ℕ) where
     connection = connection_in (length (book_of book)) saved
 
     -- the records as they are lent
-    pub lent_held : (n : ℕ) → n ≡ length (book_of book) → Held n lent
+    pub lent_held : (b : List ℕ) (n : ℕ) → b ≡ book → n ≡ length (book_of b) → Held n lent
     unfolding records_of
-    lent_held n e = rw (e, behind_whole records_place saved) calm.inside.held
+    lent_held b n same e = rw (e, same, behind_whole records_place saved) calm.inside.held
 
     -- ---- An event that leaves the gathering
 
@@ -79,7 +83,8 @@ module _ (book saved : List ℕ) where
         → length c.ends ≡ length (book_of book)
     same_count e c h =
         let was = right_legal (book_of book) saved calm.lawful in
-        let lawful = subst (λ (x : Connection). legal (book_of book) x ≡ true) h (happens_legal (book_of book) connection was e) in
+        let lawful =
+        subst (λ (x : Connection). legal (book_of book) x ≡ true) h (happens_legal (book_of book) connection was e) in
         legal_length (book_of book) c.ends (legal_ends_lem (book_of book) c lawful).every
 
     module _ (e : Event) (number : ℕ) (m : List ℕ) where
@@ -113,11 +118,11 @@ module _ (book saved : List ℕ) where
           ∙ sym (rw (calm.allowed, h))
 
     -- Channel up
-    pub up_happens : (event : Event) (n number : ℕ) (m : List ℕ) → event ≡ Up → n ≡ length (book_of book)
+    pub up_happens : (event : Event) (b : List ℕ) (n number : ℕ) (m : List ℕ) → event ≡ Up → b ≡ book → n ≡ length (book_of b)
         → ◌≡◌ {A = MovedRecords} (record { number = number; records = m }) (upped n lent)
         → Happens book saved event number (put_mid records_place (length saved - records_place) saved m)
     unfolding upped happens connection_in records_of
-    up_happens event n number m is e t = go (told (eqb (awaiting ends) 0))
+    up_happens event b n number m is same e t = go (told (eqb (awaiting ends) 0))
       where
         ends : Ends
         ends = ends_in (length (book_of book)) behind
@@ -126,7 +131,7 @@ module _ (book saved : List ℕ) where
         this = ap (happens (book_of book) connection) is
 
         stands : ◌≡◌ {A = MovedRecords} (record { number = number; records = m }) (upped (length (book_of book)) behind)
-        stands = t ∙ rw (e, behind_whole records_place saved)
+        stands = t ∙ rw (e, same, behind_whole records_place saved)
 
         go : Told? (eqb (awaiting ends) 0)
             → Happens book saved event number (put_mid records_place (length saved - records_place) saved m)
@@ -134,11 +139,11 @@ module _ (book saved : List ℕ) where
         go (failed p) = moved event number m (up_in ends) (this ∙ rw p) (stands ∙ rw p)
 
     -- Channel down
-    pub down_happens : (event : Event) (s : OurSeid) (number : ℕ) (m : List ℕ) → event ≡ Down s
-        → ◌≡◌ {A = MovedRecords} (record { number = number; records = m }) (downed s (book_of book) lent)
+    pub down_happens : (event : Event) (b : List ℕ) (s : OurSeid) (number : ℕ) (m : List ℕ) → event ≡ Down s → b ≡ book
+        → ◌≡◌ {A = MovedRecords} (record { number = number; records = m }) (downed s (book_of b) lent)
         → Happens book saved event number (put_mid records_place (length saved - records_place) saved m)
     unfolding downed downed_at happens down_at connection_in records_of
-    down_happens event s number m is t = go (find s (book_of book)) refl
+    down_happens event b s number m is same t = go (find s (book_of book)) refl
       where
         ends : Ends
         ends = ends_in (length (book_of book)) behind
@@ -147,7 +152,7 @@ module _ (book saved : List ℕ) where
         this = ap (happens (book_of book) connection) is
 
         stands : ◌≡◌ {A = MovedRecords} (record { number = number; records = m }) (downed s (book_of book) behind)
-        stands = t ∙ rw (behind_whole records_place saved)
+        stands = t ∙ rw (same, behind_whole records_place saved)
 
         by_channel : (i : ℕ) (n : Entry) → find s (book_of book) ≡ known i n → Told? (is_up (end_at ends i).head.channel)
             → Happens book saved event number (put_mid records_place (length saved - records_place) saved m)
@@ -161,14 +166,15 @@ module _ (book saved : List ℕ) where
         go (known i n) e = by_channel i n e (told (is_up (end_at ends i).head.channel))
 
     -- Link lost
-    pub lost_happens : (event : Event) (n : ℕ) (m : List ℕ) → event ≡ Lost → n ≡ length (book_of book) → m ≡ all_idle n lent
+    pub lost_happens : (event : Event) (b : List ℕ) (n : ℕ) (m : List ℕ) → event ≡ Lost → b ≡ book → n ≡ length (book_of b)
+        → m ≡ all_idle n lent
         → Happens book saved event 0 (set (put_mid records_place (length saved - records_place) saved m) 1 0)
     unfolding event_call number_or happens store all_idle connection_in records_of
-    lost_happens event n m is e t =
+    lost_happens event b n m is same e t =
         let after : Connection = (happens (book_of book) connection Lost).connection in
         ap (λ (x : List ℕ). record { number = 0; saved = x })
         (cleared_back saved m (omega (arith, calm.long))
         ∙ ap₂ (λ (k : ℕ) (x : List ℕ). k ∷ (store_gathering none room ++ x))
         (calm.inside.count ∙ sym (same_count Lost after refl))
-        (t ∙ ap₂ all_idle e (behind_whole records_place saved)))
+        (t ∙ ap₂ all_idle (e ∙ ap (λ (x : List ℕ). length (book_of x)) same) (behind_whole records_place saved)))
         ∙ sym (ap (event_call book saved) is ∙ rw calm.allowed)

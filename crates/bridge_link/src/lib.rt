@@ -2,43 +2,42 @@
 #![tactic(auto)]
 
 ghost use Rattle.rules.specs.Calls.{Freshens, Happens};
+ghost use Rattle.rules.specs.Refusals.{number_told};
 
+use bridge_refusals::refusal;
 use rules::Event;
 use rules::layout::{COUNT_PLACE, LINK_MARK, RECORD, RECORDS};
+use rules::refusals::Refusal;
+use saved_events::{down, lost, up};
 
-// Begins: `saved` holds a fresh connection over the book, every endpoint idle and nothing gathered. An area too short is 12.
-pub fn fresh(book: &[u8], saved: &mut [u8]) -> u8
-    ensures { Freshens book.now saved.old result saved.new }
+// Begins: `saved` holds a fresh connection over the book, every endpoint idle and nothing gathered. An area too short is refused
+// as a saved connection is.
+pub fn fresh(book: &[u8], saved: &mut [u8]) -> Result<(), Refusal>
+    ensures { Freshens book.now saved.old (number_told result) saved.new }
 {
-    let number = book_check::check(book);
-    if number != 0 {
-        return number;
-    }
-    let entries = book::places::count(book);
+    let right = book_check::check(book)?;
+    let entries = right.count();
     if saved.len() < RECORDS + entries * RECORD {
-        return 12;
+        return Err(Refusal::Saved);
     }
-    saved_fresh::begin(book, &mut saved[RECORDS..]);
+    saved_fresh::begin(right, &mut saved[RECORDS..]);
     saved[COUNT_PLACE] = entries as u8;
     saved[LINK_MARK] = 0;
-    0
+    Ok(())
 }
 
 // Takes a link event: the awaited channel is up, the channel of one of our SEIDs is down, the link is lost.
-pub fn event(book: &[u8], saved: &mut [u8], event: Event) -> u8
-    ensures { Happens book.now saved.old event result saved.new }
+pub fn event(book: &[u8], saved: &mut [u8], event: Event) -> Result<(), Refusal>
+    ensures { Happens book.now saved.old event (number_told result) saved.new }
 {
-    let number = bridge_refusals::refusal(book, saved);
-    if number != 0 {
-        return number;
-    }
+    let right = refusal(book, saved)?;
     match event {
-        Event::Up => saved_events::up(&mut saved[RECORDS..], book::places::count(book)),
-        Event::Down(seid) => saved_events::down(book, &mut saved[RECORDS..], seid),
+        Event::Up => up(&mut saved[RECORDS..], right.count()),
+        Event::Down(seid) => down(right, &mut saved[RECORDS..], seid),
         Event::Lost => {
-            saved_events::lost(&mut saved[RECORDS..], book::places::count(book));
+            lost(&mut saved[RECORDS..], right.count());
             saved[LINK_MARK] = 0;
-            0
+            Ok(())
         }
     }
 }

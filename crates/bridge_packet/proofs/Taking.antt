@@ -4,20 +4,22 @@ use Prim.Native.Nat.{ℕ, ◌+◌, ◌≤◌}
 use mathlib.Core.Path.{◌≡◌, sym, ap, subst, ◌∙◌}
 use mathlib.Core.List.{List, ◌∷◌, ◌++◌}
 use mathlib.Core.Bool.{true}
+use mathlib.Core.Logic.{◌⊎◌, ⊎_elim}
 use mathlib.Core.Option.{Option, none, some}
 use native.Mathlib.Omega.{arith}
 use lib.ListN.{length, take, drop, length-append}
 use lib.Seq.{take-suc}
 use Rattle.rules.specs.Octets.{front, octets_in}
-use Rattle.rules.specs.Book.{book_of}
+use Rattle.rules.specs.Book.{book_number, book_of}
 use Rattle.rules.specs.Packets.{Message, gather}
 use Rattle.rules.specs.Endpoints.{Ends}
-use Rattle.rules.specs.Saved.{records_place, area_for, count_in, link_of, records_of, gathering_at, gathering_in, ends_in, connection_in}
-use Rattle.rules.specs.Saved.{store}
+use Rattle.rules.specs.Saved.{records_place, area_for, count_in, link_of, records_of, gathering_at, gathering_in, ends_in}
+use Rattle.rules.specs.Saved.{connection_in, store}
 use Rattle.rules.specs.Host.{nothing_said, handled_by, takes, Answered}
 use Rattle.rules.specs.declared.Header.{Header}
 use Rattle.packets_next.specs.Nexts.{next_of}
-use Rattle.packets_next.specs.declared.nexts.Next.TheVariants.{Single, Complete}
+use Rattle.packets_next.specs.declared.nexts.Next.{Next}
+use Rattle.packets_next.specs.declared.nexts.Next.TheVariants.{Ended, Single, Begun, Grown, Complete}
 use Rattle.rules.proofs.SavedReads.{ends_kept, length_ends_in}
 use Rattle.rules.proofs.Refused.{nothing_written}
 use Rattle.rules.proofs.Places.{legal_length}
@@ -34,10 +36,17 @@ use Rattle.saved_legal.proofs.RightSaved.{Right, right_saved, serves}
 use Rattle.bridge_packet.specs.Taken.{MayTake, Joins, with_link, joined_payload, gathered_area, served, taken_on}
 use Rattle.bridge_packet.proofs.LinkBack.{link_with, front_with, records_with, long_with}
 
+-- what is neither a message in one packet nor the last part of one completes none
+pub no_message : (size : ℕ) (room p : List ℕ) (r : Next) → next_of size (gathering_in room) p ≡ r
+    → (r ≡ Ended) ⊎ ((r ≡ Begun) ⊎ (r ≡ Grown)) → (gather size (gathering_in room) p).done ≡ none
+no_message size room p r e =
+    ⊎_elim (λ k. (room_told size room p Ended (e ∙ k)).done)
+    (⊎_elim (λ k. (room_told size room p Begun (e ∙ k)).done) (λ k. (room_told size room p Grown (e ∙ k)).done))
+
 abbrev pub answered : Told → List ℕ → List ℕ → Answered
 answered told saved reply = record { told = told; saved = saved; reply = reply }
 
-module _ (book : List ℕ) (size : ℕ) (saved p reply : List ℕ) (may : MayTake book saved reply)
+module _ (book : List ℕ) (size : ℕ) (saved p reply : List ℕ) (numbered : book_number book ≡ 0) (may : MayTake book saved reply)
     (octets : octets_in saved ≡ true) where
   abbrev room : List ℕ
   room = link_of saved
@@ -93,7 +102,7 @@ module _ (book : List ℕ) (size : ℕ) (saved p reply : List ℕ) (may : MayTak
 
   may_serve : (payload : List ℕ) → length payload ≤ 512
       → Serves book (records_of (gathered_area size saved p)) payload reply
-  may_serve payload short = rw after_records (serves book saved payload reply may.right right short may.room)
+  may_serve payload short = rw after_records (serves book saved payload reply numbered right short may.room)
 
   -- a message that is complete
   serves_it : (m : Message) → (gather size (gathering_in room) p).done ≡ some m

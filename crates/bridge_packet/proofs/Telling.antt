@@ -20,7 +20,7 @@ use Rattle.bridge_packet.specs.Taken.{spoken, served}
 use Rattle.octets.proofs.Tails.{behind_whole, tail_back}
 
 told_reply : (m : Message) (r : Reply) → spoken m.header (said_of r) ≡ told_of m r
-unfolding spoken said_of told_of said nothing_said
+unfolding spoken told_of said nothing_said
 told_reply m silence = refl
 told_reply m general_reject = refl
 told_reply m (accept p) = refl

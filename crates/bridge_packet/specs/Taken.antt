@@ -1,7 +1,7 @@
 -- What a packet leads to on a right saved area, step by step, and what the code may count on there.
-use Rattle.std.specs.Prelude.{ℕ, ◌+◌, ◌≤◌, ◌≡◌, List, ◌++◌, true, length, take, drop, eqb, if◌then◌else◌}
+use Rattle.std.specs.Prelude.{ℕ, ◌+◌, ◌≤◌, ◌≡◌, List, ◌++◌, true, length, take, drop}
 use Rattle.rules.specs.Octets.{front}
-use Rattle.rules.specs.Book.{book_number, book_of}
+use Rattle.rules.specs.Book.{book_of}
 use Rattle.rules.specs.Packets.{Message, gather}
 use Rattle.rules.specs.Saved.{count_room, records_place, link_of, records_of, payload_length_in, gathering_at, gathering_in}
 use Rattle.rules.specs.Saved.{store_gathering, ends_in, store_ends, connection_in, store, saved_right}
@@ -10,19 +10,20 @@ use Rattle.rules.specs.Host.{nothing_said, told_of, payload_of, takes, Answered}
 use Rattle.rules.specs.declared.Told.{Told}
 use Rattle.rules.specs.declared.Header.{Header}
 use Rattle.commands_reply.specs.declared.Said.{Said}
+use Rattle.commands_reply.specs.declared.Said.TheVariants.{Silence, GeneralReject, Accept, Reject}
 use Rattle.saved.specs.Serves.{Serves}
 
--- a right book, a right saved area over it, and room for every reply
+-- a right saved area over a book that is right by its type, and room for every reply
 pub record MayTake (book saved reply : List ℕ) : Type 0 where
-  pub right : book_number book ≡ 0
   pub legal : saved_right (book_of book) saved ≡ true
   pub room : 64 ≤ length reply
 
--- what is told of what a command says
+-- what is told of what a command says: message types 1 general reject, 2 accept, 3 reject
 unfoldable pub spoken : Header → Said → Told
-spoken h said =
-    if eqb said.mtype 0 then nothing_said 0
-    else record { number = 0; label = h.label; mtype = said.mtype; signal = h.signal; length = said.length }
+spoken h Silence = nothing_said 0
+spoken h GeneralReject = record { number = 0; label = h.label; mtype = 1; signal = h.signal; length = 0 }
+spoken h (Accept n) = record { number = 0; label = h.label; mtype = 2; signal = h.signal; length = n }
+spoken h (Reject n) = record { number = 0; label = h.label; mtype = 3; signal = h.signal; length = n }
 
 -- the saved area with another link part
 unfoldable pub with_link : List ℕ → List ℕ → List ℕ

@@ -9,6 +9,7 @@ ghost use Rattle.saved.specs.Serves.{Serves};
 ghost use Rattle.packets_next.specs.Rooms.{RoomRight};
 ghost use Rattle.bridge_packet.specs.Taken.{MayTake, Joins, spoken, joined_payload, gathered_area, served, taken_on};
 
+use book::places::RightBook;
 use commands_reply::Said;
 use packets_next::nexts::Next;
 use rules::layout::{COUNT, RECORDS};
@@ -16,6 +17,7 @@ use rules::{Header, Told};
 use saved::parts::link_of;
 
 // A refusal, or silence, whose number is 0.
+#[tactic(auto, unfolding(rules::specs::Host::nothing_said))]
 pub fn nothing(number: u8) -> Told
     ensures { result ≡ nothing_said number }
 {
@@ -29,18 +31,22 @@ pub fn nothing(number: u8) -> Told
 }
 
 // What is said, with the label and the signal of the message that it answers.
+#[tactic(auto, unfolding(crate::specs::Taken::spoken))]
 fn tell(header: Header, said: Said) -> Told
     ensures { result ≡ spoken header said }
 {
-    if said.mtype == 0 {
-        return nothing(0);
-    }
+    let (mtype, length) = match said {
+        Said::Silence => return nothing(0),
+        Said::GeneralReject => (1, 0),
+        Said::Accept { length } => (2, length),
+        Said::Reject { length } => (3, length),
+    };
     Told {
         number: 0,
         label: header.label,
-        mtype: said.mtype,
+        mtype,
         signal: header.signal,
-        length: said.length,
+        length,
     }
 }
 
@@ -54,10 +60,16 @@ fn gathered(saved: &mut [u8], size: usize, packet: &[u8]) -> Next
 }
 
 // Answers a message over the records.
-fn serve(header: Header, book: &[u8], saved: &mut [u8], payload: &[u8], reply: &mut [u8]) -> Told
-    requires { (records_place ≤ length saved.old) × Serves book.now (records_of saved.old) payload.now reply.old }
+fn serve(
+    header: Header,
+    book: RightBook<'_>,
+    saved: &mut [u8],
+    payload: &[u8],
+    reply: &mut [u8],
+) -> Told
+    requires { (records_place ≤ length saved.old) × Serves book.octets.now (records_of saved.old) payload.now reply.old }
     ensures { ◌≡◌ {A = Answered} (record { told = result; saved = saved.new; reply = reply.new })
-        (served book.now (record { header = header; payload = payload.now })
+        (served book.entry.octets.now (record { header = header; payload = payload.now })
         saved.old reply.old) }
 {
     let said = commands::answer(header, book, &mut saved[RECORDS..], payload, reply);
@@ -67,32 +79,38 @@ fn serve(header: Header, book: &[u8], saved: &mut [u8], payload: &[u8], reply: &
 // Answers a message whose last part is in the packet and whose other parts are gathered.
 fn serve_joined(
     header: Header,
-    book: &[u8],
+    book: RightBook<'_>,
     saved: &mut [u8],
     packet: &[u8],
     reply: &mut [u8],
 ) -> Told
-    requires { Joins book.now saved.old packet.now reply.old }
+    requires { Joins book.octets.now saved.old packet.now reply.old }
     ensures { ◌≡◌ {A = Answered} (record { told = result; saved = saved.new; reply = reply.new })
-        (served book.now
+        (served book.entry.octets.now
         (record { header = header; payload = joined_payload saved.old packet.now })
         saved.old reply.old) }
 {
-    let mut message = [0u8; 512];
+    // an array and its front: a vector of fixed room would be taken of the kit besides std
+    let mut message = [0; 512];
     let length = packets_gather::assemble(&mut message, link_of(saved), packet);
-    serve(header, book, saved, &message[0..length], reply)
+    serve(header, book, saved, &message[..length], reply)
 }
 
 // Takes a packet.
-pub fn take(book: &[u8], size: usize, saved: &mut [u8], packet: &[u8], reply: &mut [u8]) -> Told
-    requires { MayTake book.now saved.old reply.old }
+pub fn take(
+    book: RightBook<'_>,
+    size: usize,
+    saved: &mut [u8],
+    packet: &[u8],
+    reply: &mut [u8],
+) -> Told
+    requires { MayTake book.octets.now saved.old reply.old }
     ensures { ◌≡◌ {A = Answered} (record { told = result; saved = saved.new; reply = reply.new })
-        (taken_on book.now size saved.old packet.now reply.old) }
+        (taken_on book.entry.octets.now size saved.old packet.now reply.old) }
 {
-    let then = gathered(saved, size, packet);
-    match then {
+    match gathered(saved, size, packet) {
         Next::Single(header) => serve(header, book, saved, &packet[2..], reply),
         Next::Complete(header) => serve_joined(header, book, saved, packet, reply),
-        _ => nothing(0),
+        Next::Ended | Next::Begun | Next::Grown => nothing(0),
     }
 }

@@ -17,7 +17,7 @@ use Rattle.rules.specs.Sessions
 use Rattle.rules.specs.Sessions.{check, fresh, packet, event, settings, delay, packets, cut, number, told, shown, heard, counted}
 use Rattle.rules.specs.Sessions.{cut_off, Done, keeping, answered, call, answers, after, stands, status, burst, told_each}
 use Rattle.rules.specs.Sessions.{answered_each}
-use Rattle.rules.specs.Bursts.{packets_in, BurstAnswered, burst_call}
+use Rattle.rules.specs.Bursts.{packets_in, none_told, BurstAnswered, burst_call}
 use Rattle.rules.specs.Listed.{EachListed}
 use Rattle.rules.specs.Moves.{shifts, shifts_in, StoppedSeen}
 use Rattle.rules.specs.Alike.{alike, restrained, Begins, begun, lost, cleared, compared}
@@ -38,18 +38,16 @@ use Rattle.rules.proofs.Refused.{burst_taken_lem}
 use Rattle.rules.proofs.OneByOne.{one_by_one}
 use Rattle.bridge_step.specs.declared.Call.TheVariants as Call
 use Rattle.bridge_step.specs.declared.Answer.{Answer}
-use Rattle.bridge_step.specs.declared.Answer.TheVariants as Answer
-use Rattle.bridge_step.specs.declared.Given.{Given}
-use Rattle.bridge_step.specs.Steps.{call_by, answer_in, each_in, area_after, room_after, Exit, exit_of, Steps}
-use Rattle.bridge_step.specs.Hosts.{Asked, call_of, asked_of, read_with, read_by, Runs, ended, goes, Defined, Legal, Indistinct}
+use Rattle.bridge_step.specs.Steps.{call_by, answer_in, area_after, room_after, Exit, exit_of, Steps}
+use Rattle.bridge_step.specs.Hosts.{Asked, call_of, asked_of, read_by, Runs, ended, goes, Defined, Legal, Indistinct}
 use Rattle.bridge_step.specs.Hosts.{BurstRuns}
 
 -- ---- One step
 
 -- what the host reads of a step is what the definitions answer
 answer_read : (a : Sessions.Answer) (area room : List ℕ)
-    → read_with (answer_in a) (each_in a) (area_after a area) (room_after a room) ≡ a
-unfolding read_with answer_in each_in area_after room_after
+    → read_by (answer_in a) (area_after a area) (room_after a room) ≡ a
+unfolding read_by answer_in area_after room_after
 answer_read (number n) area room = refl
 answer_read (told t reply) area room = refl
 answer_read (told_each b reply) area room = refl
@@ -60,13 +58,13 @@ answer_read (stands t) area room = refl
 answer_read (counted n) area room = refl
 answer_read (cut_off c) area room = refl
 
-pub made : (book saved : List ℕ) (k : Asked) (g : Given) (next area' room' : List ℕ)
-    → Steps book saved k.call k.input k.lengths k.area k.room g next area' room'
-    → ◌≡◌ {A = Done} (record { answer = read_by g area' room'; saved = next }) (call book saved (call_of k))
+pub made : (book saved : List ℕ) (k : Asked) (a : Answer) (next area' room' : List ℕ)
+    → Steps book saved k.call k.input k.lengths k.area k.room a next area' room'
+    → ◌≡◌ {A = Done} (record { answer = read_by a area' room'; saved = next }) (call book saved (call_of k))
 unfolding call_of exit_of
-made book saved k g next area' room' e =
+made book saved k a next area' room' e =
     let d = call book saved (call_of k) in
-    ap (λ (x : Exit). record { answer = read_by x.given x.area x.room; saved = x.saved }) e
+    ap (λ (x : Exit). record { answer = read_by x.answer x.area x.room; saved = x.saved }) e
     ∙ ap (λ (x : Sessions.Answer). record { answer = x; saved = d.saved }) (answer_read d.answer k.area k.room)
 
 -- every call of a sequence is a step
@@ -84,13 +82,13 @@ any_call room (packets size n) = refl
 any_call room (cut size m k area) = refl
 
 -- two answers that both meet the contract, with the lent areas at exit, are equal
-pub step_unique : (book saved : List ℕ) (k : Asked) {g h : Given} {s t area area' room room' : List ℕ}
-    → Steps book saved k.call k.input k.lengths k.area k.room g s area room
-    → Steps book saved k.call k.input k.lengths k.area k.room h t area' room'
-    → (g ≡ h) × (s ≡ t) × (area ≡ area') × (room ≡ room')
+pub step_unique : (book saved : List ℕ) (k : Asked) {a b : Answer} {s t area area' room room' : List ℕ}
+    → Steps book saved k.call k.input k.lengths k.area k.room a s area room
+    → Steps book saved k.call k.input k.lengths k.area k.room b t area' room'
+    → (a ≡ b) × (s ≡ t) × (area ≡ area') × (room ≡ room')
 step_unique book saved k p q =
     let e = p ∙ sym q in (
-      ap (λ (x : Exit). x.given) e,
+      ap (λ (x : Exit). x.answer) e,
       ap (λ (x : Exit). x.saved) e,
       ap (λ (x : Exit). x.area) e,
       ap (λ (x : Exit). x.room) e,
@@ -102,8 +100,8 @@ pub defined : (book saved : List ℕ) (asks : List Asked) (said : List Sessions.
     → Runs book saved asks said last → Defined book saved (map call_of asks) said last
 unfolding answers after
 defined book saved _ _ _ (ended _) = record { told = refl; left = refl }
-defined book saved _ _ _ (goes _ k g next area' room' more said last step rest) =
-    let e = made book saved k g next area' room' step in
+defined book saved _ _ _ (goes _ k a next area' room' more said last step rest) =
+    let e = made book saved k a next area' room' step in
     let d = defined book next more said last rest in
     let there = ap (λ (x : Done). x.saved) e in
     record {
@@ -118,7 +116,7 @@ defined book saved _ _ _ (goes _ k g next area' room' more said last step rest) 
 number_by : Answer → ℕ
 number_by (Answer.Number n) = n
 number_by (Answer.Told t) = 0
-number_by (Answer.Burst n) = n
+number_by (Answer.Burst b) = b.number
 number_by (Answer.Shown n size) = 0
 number_by (Answer.Heard h) = 0
 number_by (Answer.Stands t) = 0
@@ -126,19 +124,19 @@ number_by (Answer.Counted n) = 0
 number_by (Answer.CutOff piece) = 0
 
 kept_in : Exit → Kept
-kept_in x = record { number = number_by x.given.answer; saved = x.saved }
+kept_in x = record { number = number_by x.answer; saved = x.saved }
 
-pub fresh_begins : (book past input lengths area room : List ℕ) (each : List Told) (s area' room' : List ℕ)
-    → Steps book past Call.Fresh input lengths area room (record { answer = Answer.Number 0; told = each }) s area' room'
+pub fresh_begins : (book past input lengths area room : List ℕ) (s area' room' : List ℕ)
+    → Steps book past Call.Fresh input lengths area room (Answer.Number 0) s area' room'
     → Begins book s
 unfolding exit_of call_by call keeping answer_in kept_in number_by
-fresh_begins book past input lengths area room each s area' room' e = begun past (sym (ap kept_in e))
+fresh_begins book past input lengths area room s area' room' e = begun past (sym (ap kept_in e))
 
-pub lost_begins : (book past input lengths area room : List ℕ) (each : List Told) (s area' room' : List ℕ)
-    → Steps book past (Call.Event Lost) input lengths area room (record { answer = Answer.Number 0; told = each }) s area' room'
+pub lost_begins : (book past input lengths area room : List ℕ) (s area' room' : List ℕ)
+    → Steps book past (Call.Event Lost) input lengths area room (Answer.Number 0) s area' room'
     → Begins book s
 unfolding exit_of call_by call keeping answer_in kept_in number_by
-lost_begins book past input lengths area room each s area' room' e = lost past (sym (ap kept_in e))
+lost_begins book past input lengths area room s area' room' e = lost past (sym (ap kept_in e))
 
 -- a right area is left
 pub begins_right : (book s : List ℕ) → book_number book ≡ 0 → Begins book s → saved_right (book_of book) s ≡ true
@@ -182,23 +180,23 @@ told_in (stands t) = nothing_said 0
 told_in (counted n) = nothing_said 0
 told_in (cut_off c) = nothing_said 0
 
-packet_made : (book saved p lengths reply room : List ℕ) (size : ℕ) (t : Told) (each : List Told) (next reply' room' : List ℕ)
-    → Steps book saved (Call.Packet size) p lengths reply room (record { answer = Answer.Told t; told = each }) next reply' room'
+packet_made : (book saved p lengths reply room : List ℕ) (size : ℕ) (t : Told) (next reply' room' : List ℕ)
+    → Steps book saved (Call.Packet size) p lengths reply room (Answer.Told t) next reply' room'
     → ◌≡◌ {A = Answered} (record { told = t; saved = next; reply = reply' }) (packet_call book size saved p reply)
-unfolding exit_of call_by call answered answer_in area_after read_with told_in
-packet_made book saved p lengths reply room size t each next reply' room' e =
-    ap (λ (x : Exit). record { told = told_in (read_by x.given [] []); saved = x.saved; reply = x.area }) e
+unfolding exit_of call_by call answered answer_in area_after read_by told_in
+packet_made book saved p lengths reply room size t next reply' room' e =
+    ap (λ (x : Exit). record { told = told_in (read_by x.answer [] []); saved = x.saved; reply = x.area }) e
 
 -- A packet that completes no Start and no Suspend and is not answered with an accept moves no endpoint.
 pub hosts_unmoved : (book saved : List ℕ) (asks : List Asked) (said : List Sessions.Answer) (last : List ℕ) → book_number book ≡ 0
     → saved_right (book_of book) saved ≡ true → Runs book saved asks said last
-    → (size : ℕ) (p lengths reply room : List ℕ) (t : Told) (each : List Told) (next reply' room' : List ℕ)
-    → Steps book last (Call.Packet size) p lengths reply room (record { answer = Answer.Told t; told = each }) next reply' room'
+    → (size : ℕ) (p lengths reply room : List ℕ) (t : Told) (next reply' room' : List ℕ)
+    → Steps book last (Call.Packet size) p lengths reply room (Answer.Told t) next reply' room'
     → shifts_in (gather size (connection_in (length (book_of book)) last).link.gathering p).done ≡ false → (t.mtype ≡ 2 → ⊥)
     → (connection_in (length (book_of book)) next).ends ≡ (connection_in (length (book_of book)) last).ends
-hosts_unmoved book saved asks said last ok right runs size p lengths reply room t each next reply' room' step other refused =
+hosts_unmoved book saved asks said last ok right runs size p lengths reply room t next reply' room' step other refused =
     let legal = (hosts_legal book saved asks said last ok right runs).right in
-    let e = packet_made book last p lengths reply room size t each next reply' room' step in
+    let e = packet_made book last p lengths reply room size t next reply' room' step in
     ap (λ (a : Answered). (connection_in (length (book_of book)) a.saved).ends) e
     ∙ packet_unmoved book size last p reply ok legal other (λ k. refused (ap (λ (a : Answered). a.told.mtype) e ∙ k))
 
@@ -206,16 +204,16 @@ hosts_unmoved book saved asks said last ok right runs size p lengths reply room 
 -- listed before the one that failed, and the reply names it.
 pub hosts_stopped : (book saved : List ℕ) (asks : List Asked) (said : List Sessions.Answer) (last : List ℕ) → book_number book ≡ 0
     → saved_right (book_of book) saved ≡ true → Runs book saved asks said last
-    → (size : ℕ) (p lengths reply room : List ℕ) (t : Told) (each : List Told) (next reply' room' : List ℕ)
-    → Steps book last (Call.Packet size) p lengths reply room (record { answer = Answer.Told t; told = each }) next reply' room'
+    → (size : ℕ) (p lengths reply room : List ℕ) (t : Told) (next reply' room' : List ℕ)
+    → Steps book last (Call.Packet size) p lengths reply room (Answer.Told t) next reply' room'
     → (m : Message) → (gather size (connection_in (length (book_of book)) last).link.gathering p).done ≡ some m → shifts m ≡ true
     → is_empty m.payload ≡ false → t.mtype ≡ 3
     → StoppedSeen (book_of book) (connection_in (length (book_of book)) last).ends reply m
     (record { told = t; saved = next; reply = reply' })
-hosts_stopped book saved asks said last ok right runs size p lengths reply room t each next reply' room' step m done shift lists
+hosts_stopped book saved asks said last ok right runs size p lengths reply room t next reply' room' step m done shift lists
     rejected =
     let legal = (hosts_legal book saved asks said last ok right runs).right in
-    let e = packet_made book last p lengths reply room size t each next reply' room' step in
+    let e = packet_made book last p lengths reply room size t next reply' room' step in
     subst (StoppedSeen (book_of book) (connection_in (length (book_of book)) last).ends reply m) (sym e)
     (packet_stopped book size last p reply ok legal m done shift lists
     (sym (ap (λ (a : Answered). a.told.mtype) e) ∙ rejected))
@@ -247,7 +245,7 @@ hosts_quiet b b' s s' asks asks' said said' last last' ok ok' same begins begins
 any_step : (book saved room : List ℕ) (c : Sessions.Call)
     → let k = asked_of room c in
     let x = exit_of (call book saved c) k.area room in
-    Steps book saved k.call k.input k.lengths k.area k.room x.given x.saved x.area x.room
+    Steps book saved k.call k.input k.lengths k.area k.room x.answer x.saved x.area x.room
 unfolding asked_of call_by
 any_step book saved room check = refl
 any_step book saved room fresh = refl
@@ -272,27 +270,32 @@ runs_any book saved room (c ∷ calls) =
     Runs book saved (asked_of room c ∷ map (asked_of room) calls) (a ∷ answers book d.saved calls)
     (after book d.saved calls))
     (answer_read d.answer (asked_of room c).area room)
-    (goes saved (asked_of room c) x.given d.saved x.area x.room (map (asked_of room) calls) _ _
+    (goes saved (asked_of room c) x.answer d.saved x.area x.room (map (asked_of room) calls) _ _
     (any_step book saved room c) (runs_any book d.saved room calls))
 
 -- ---- Bursts of what runs
 
+burst_by : Answer → Burst
+burst_by (Answer.Number n) = none_told 0
+burst_by (Answer.Told t) = none_told 0
+burst_by (Answer.Burst b) = b
+burst_by (Answer.Shown n size) = none_told 0
+burst_by (Answer.Heard h) = none_told 0
+burst_by (Answer.Stands t) = none_told 0
+burst_by (Answer.Counted n) = none_told 0
+burst_by (Answer.CutOff piece) = none_told 0
+
 burst_in : Exit → BurstAnswered
-burst_in x =
-    record {
-      burst = record { number = number_by x.given.answer; told = x.given.told };
-      saved = x.saved;
-      reply = x.area;
-    }
+burst_in x = record { burst = burst_by x.answer; saved = x.saved; reply = x.area }
 
 -- A burst that is not refused runs as its packets do, one by one: a host whose steps are its packets, each on its own 64 octets,
 -- gets the same answers in the same order and the same saved area, so that what is proved of a packet holds of every packet of
 -- every burst.
 pub hosts_burst : (book saved octets lengths reply room : List ℕ) (size : ℕ) (each : List Told) (next reply' room' : List ℕ)
-    → Steps book saved (Call.Burst size) octets lengths reply room (record { answer = Answer.Burst 0; told = each }) next reply'
+    → Steps book saved (Call.Burst size) octets lengths reply room (Answer.Burst (record { number = 0; told = each })) next reply'
     room'
     → BurstRuns book saved size (packets_in octets lengths) reply room each next reply'
-unfolding exit_of call_by call answered_each answer_in each_in area_after burst_in number_by
+unfolding exit_of call_by call answered_each answer_in area_after burst_in burst_by
 hosts_burst book saved octets lengths reply room size each next reply' room' e =
     let b = burst_call book size saved octets lengths reply in
     let came : record { burst = record { number = 0; told = each }; saved = next; reply = reply' } ≡ b = ap burst_in e in

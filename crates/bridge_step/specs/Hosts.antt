@@ -15,8 +15,6 @@ use Rattle.bridge_step.specs.declared.Call.{Call}
 use Rattle.bridge_step.specs.declared.Call.TheVariants.{Check, Fresh, Packet, Event, Settings, Delay, Status, Packets, Cut}
 use Rattle.bridge_step.specs.declared.Call.TheVariants.{Burst}
 use Rattle.bridge_step.specs.declared.Answer.{Answer}
-use Rattle.bridge_step.specs.declared.Answer.TheVariants as Answer
-use Rattle.bridge_step.specs.declared.Given.{Given}
 use Rattle.rules.specs.declared.Told.{Told}
 use Rattle.bridge_step.specs.Steps.{call_by, Steps}
 
@@ -45,31 +43,26 @@ asked_of room (delay s) = record { call = Delay s; input = []; lengths = []; are
 asked_of room (status s) = record { call = Status s; input = []; lengths = []; area = []; room = room }
 asked_of room (packets size n) = record { call = Packets size n; input = []; lengths = []; area = []; room = room }
 asked_of room (cut size m k area) =
-    let h = m.header in
-    record { call = Cut size h.label h.mtype h.signal k; input = m.payload; lengths = []; area = area; room = room }
+    record { call = Cut size m.header k; input = m.payload; lengths = []; area = area; room = room }
 
--- what the host reads of what a step gives: its numbers, what is told of the packets of a burst, the lent area at exit, and the
--- part at the front of the room
-unfoldable pub read_with : Answer → List Told → List ℕ → List ℕ → Sessions.Answer
-read_with (Answer.Number n) each area room = number n
-read_with (Answer.Told t) each area room = told t area
-read_with (Answer.Burst n) each area room = told_each (record { number = n; told = each }) area
-read_with (Answer.Shown n size) each area room = shown (record { number = n; part = take size room })
-read_with (Answer.Heard h) each area room = heard h
-read_with (Answer.Stands t) each area room = stands t
-read_with (Answer.Counted n) each area room = counted n
-read_with (Answer.CutOff piece) each area room = cut_off (record { piece = piece; area = area })
-
-abbrev pub read_by : Given → List ℕ → List ℕ → Sessions.Answer
-read_by g area room = read_with g.answer g.told area room
+-- what the host reads of what a step answers: what is told, the lent area at exit, and the part at the front of the room
+unfoldable pub read_by : Answer → List ℕ → List ℕ → Sessions.Answer
+read_by (Answer.Number n) area room = number n
+read_by (Answer.Told t) area room = told t area
+read_by (Answer.Burst b) area room = told_each b area
+read_by (Answer.Shown n size) area room = shown (record { number = n; part = take size room })
+read_by (Answer.Heard h) area room = heard h
+read_by (Answer.Stands t) area room = stands t
+read_by (Answer.Counted n) area room = counted n
+read_by (Answer.CutOff piece) area room = cut_off (record { piece = piece; area = area })
 
 -- a row of steps: the answers as they are read, and the saved area after it
 pub data Runs (book : List ℕ) : List ℕ → List Asked → List Sessions.Answer → List ℕ → Type 0 where
   ended : (saved : List ℕ) → Runs book saved [] [] saved
-  goes : (saved : List ℕ) (k : Asked) (g : Given) (next area' room' : List ℕ) (more : List Asked) (said : List Sessions.Answer)
+  goes : (saved : List ℕ) (k : Asked) (a : Answer) (next area' room' : List ℕ) (more : List Asked) (said : List Sessions.Answer)
       (last : List ℕ)
-      → Steps book saved k.call k.input k.lengths k.area k.room g next area' room'
-      → Runs book next more said last → Runs book saved (k ∷ more) (read_by g area' room' ∷ said) last
+      → Steps book saved k.call k.input k.lengths k.area k.room a next area' room'
+      → Runs book next more said last → Runs book saved (k ∷ more) (read_by a area' room' ∷ said) last
 
 -- ---- The words of the theorems about hosts
 

@@ -1,21 +1,17 @@
 -- The contract of `step`, one equation: the answer and every lent area at exit are what the step of a sequence makes of the
 -- inputs.
-use Rattle.std.specs.Prelude.{ℕ, ◌≡◌, List, []}
+use Rattle.std.specs.Prelude.{ℕ, ◌≡◌, List}
 use lib.ListN.{length}
 use Rattle.rules.specs.Octets.{front}
 use Rattle.rules.specs.Host.{settings_call}
 use Rattle.rules.specs.Sessions
 use Rattle.rules.specs.Sessions.{check, fresh, packet, event, settings, delay, packets, cut, number, told, shown, heard, status}
 use Rattle.rules.specs.Sessions.{stands, counted, cut_off, burst, told_each}
-use Rattle.rules.specs.Bursts.{filled}
 use Rattle.rules.specs.declared.OurSeid.{OurSeid}
-use Rattle.rules.specs.declared.Told.{Told}
 use Rattle.bridge_step.specs.declared.Call.{Call}
 use Rattle.bridge_step.specs.declared.Call.TheVariants.{Check, Fresh, Packet, Event, Settings, Delay, Status, Packets, Cut}
 use Rattle.bridge_step.specs.declared.Call.TheVariants.{Burst}
 use Rattle.bridge_step.specs.declared.Answer.{Answer}
-use Rattle.bridge_step.specs.declared.Answer.TheVariants as Answer
-use Rattle.bridge_step.specs.declared.Given.{Given}
 
 -- ---- What the code takes and gives, in the words of the definitions
 
@@ -30,30 +26,18 @@ call_by (Settings s) input lengths area = settings s
 call_by (Delay s) input lengths area = delay s
 call_by (Status s) input lengths area = status s
 call_by (Packets size length) input lengths area = packets size length
-call_by (Cut size label mtype signal index) input lengths area =
-    cut size (record { header = record { label = label; mtype = mtype; signal = signal }; payload = input }) index area
+call_by (Cut size header index) input lengths area = cut size (record { header = header; payload = input }) index area
 
--- an answer: its numbers, and of the part that is shown the length
+-- an answer: what is told, and of the part that is shown the length
 unfoldable pub answer_in : Sessions.Answer → Answer
 answer_in (number n) = Answer.Number n
 answer_in (told t reply) = Answer.Told t
-answer_in (told_each b reply) = Answer.Burst b.number
+answer_in (told_each b reply) = Answer.Burst b
 answer_in (shown s) = Answer.Shown s.number (length s.part)
 answer_in (heard h) = Answer.Heard h
 answer_in (stands t) = Answer.Stands t
 answer_in (counted n) = Answer.Counted n
 answer_in (cut_off c) = Answer.CutOff c.piece
-
--- what is told of the packets of a burst
-unfoldable pub each_in : Sessions.Answer → List Told
-each_in (number n) = filled []
-each_in (told t reply) = filled []
-each_in (told_each b reply) = b.told
-each_in (shown s) = filled []
-each_in (heard h) = filled []
-each_in (stands t) = filled []
-each_in (counted n) = filled []
-each_in (cut_off c) = filled []
 
 -- ---- The areas at exit
 
@@ -83,7 +67,7 @@ room_after (cut_off c) room = room
 
 -- what a step leaves
 pub record Exit : Type 0 where
-  pub given : Given
+  pub answer : Answer
   pub saved : List ℕ
   pub area : List ℕ
   pub room : List ℕ
@@ -91,15 +75,15 @@ pub record Exit : Type 0 where
 unfoldable pub exit_of : Sessions.Done → List ℕ → List ℕ → Exit
 exit_of d area room =
     record {
-      given = record { answer = answer_in d.answer; told = each_in d.answer };
+      answer = answer_in d.answer;
       saved = d.saved;
       area = area_after d.answer area;
       room = room_after d.answer room;
     }
 
-abbrev pub Steps : List ℕ → List ℕ → Call → List ℕ → List ℕ → List ℕ → List ℕ → Given → List ℕ → List ℕ → List ℕ → Type 0
-Steps book saved c input lengths area room g saved' area' room' =
-    ◌≡◌ {A = Exit} (record { given = g; saved = saved'; area = area'; room = room' })
+abbrev pub Steps : List ℕ → List ℕ → Call → List ℕ → List ℕ → List ℕ → List ℕ → Answer → List ℕ → List ℕ → List ℕ → Type 0
+Steps book saved c input lengths area room answer saved' area' room' =
+    ◌≡◌ {A = Exit} (record { answer = answer; saved = saved'; area = area'; room = room' })
     (exit_of (Sessions.call book saved (call_by c input lengths area)) area room)
 
 -- the part that `settings` shows, copied

@@ -1,9 +1,6 @@
 -- A command by its signal: what is answered for the signal that an arm knows is answered for the one that was given, and a
 -- refusal by the checks is the outcome of every command that names one endpoint.
-use Prim.Native.Nat.{ℕ}
-use mathlib.Core.Path.{◌≡◌, refl, sym, subst}
-use mathlib.Core.List.{List}
-use mathlib.Core.Bool.{true}
+use Rattle.std.proofs.Common.{◌≡◌, ℕ, true, List, Err, sym, refl, subst}
 use Rattle.rules.specs.Octets.{front}
 use Rattle.rules.specs.Book.{book_of}
 use Rattle.rules.specs.Commands.{general_reject, stays, rejects, obey}
@@ -19,7 +16,6 @@ use Rattle.saved.specs.Serves.{Serves}
 use Rattle.commands_reply.specs.Obeys.{ends_of, Obeys}
 use Rattle.commands_reply.proofs.Serving.{obeys_stay}
 use Rattle.commands_checks.specs.Met.{names_one, met_in}
-use Rattle.commands_checks.specs.declared.preambles.Met.TheVariants.{Refused}
 use Rattle.commands_checks.proofs.Meeting.{refused_as}
 
 -- ---- The signal that an arm knows
@@ -55,7 +51,7 @@ module _ {book l p area : List ℕ} (serves : Serves book l p area) where
   unassigned e = obeys_stay (obey Unassigned) serves general_reject refl e refl
 
   module _ {code : ℕ} where
-    refuses : (s : Signal) → names_one s ≡ true → met_in s book l p ≡ Refused code
+    refuses : (s : Signal) → names_one s ≡ true → met_in s book l p ≡ Err code
         → obey s (book_of book) (ends_of book l) p ≡ stays (ends_of book l) (rejects s 0 code)
     unfolding obey names_one
     refuses Discover o e = clash refl (sym o)
@@ -73,7 +69,7 @@ module _ {book l p area : List ℕ} (serves : Serves book l p area) where
     refuses DelayReport o e = refused_as DelayReport book l p _ e
     refuses Unassigned o e = clash refl (sym o)
 
-    pub refused : (s : Signal) → names_one s ≡ true → met_in s book l p ≡ Refused code → {said : Said} {area' : List ℕ}
+    pub refused : (s : Signal) → names_one s ≡ true → met_in s book l p ≡ Err code → {said : Said} {area' : List ℕ}
         → (said ≡ said_of (rejects s 0 code)) × (area' ≡ front (payload_of (rejects s 0 code)) area)
         → Obeys (obey s) book l p area said l area'
     refused s o e h = obeys_stay (obey s) serves (rejects s 0 code) (refuses s o e) h.0 h.1

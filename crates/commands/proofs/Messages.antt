@@ -1,8 +1,5 @@
 -- A message by its type: a command is obeyed, and any other is not answered.
-use Prim.Native.Nat.{ℕ}
-use mathlib.Core.Path.{◌≡◌, refl}
-use mathlib.Core.List.{List}
-use borrow.Author.Tests.{eq-eqb, ne_eqb}
+use Rattle.std.proofs.Common.{◌≡◌, ℕ, List, refl, eq-eqb, ne_eqb}
 use Rattle.rules.specs.Octets.{front}
 use Rattle.rules.specs.Commands.{silence, signal_of, obey, answer}
 use Rattle.rules.specs.Host.{payload_of}

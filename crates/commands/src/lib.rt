@@ -10,24 +10,26 @@ ghost use Rattle.commands_checks.specs.Met.{names_one};
 ghost use Rattle.commands_checks.specs.Named.{Named};
 ghost use Rattle.commands.specs.Messages.{answering};
 
-use book::places::Place;
-use commands_checks::preambles::{Met, preamble};
+use book::places::{Place, RightBook};
+use commands_checks::preambles::preamble;
 use commands_checks::tables::signal_of;
 use commands_reply::Said;
 use rules::{Header, Signal};
 
-// What a command that names one endpoint does there.
+// What a command that names one endpoint does there. Book, records, payload and reply area stay four arguments here and below: as
+// one struct by value they are proved too, but no plainer, since a clause then reads what is left behind the fields by their
+// position (`ask.exit.1.0.now`, `ask.exit.1.1.1.0.now`), and a command that moves nothing would not say so by its `&[u8]`.
 #[tactic(auto, unfolding(commands_checks::specs::Met::names_one))]
 fn act(
     signal: Signal,
-    book: &[u8],
+    book: RightBook<'_>,
     records: &mut [u8],
     payload: &[u8],
     reply: &mut [u8],
     at: Place,
 ) -> Said
-    requires { (names_one signal ≡ true) × Named signal book.now records.old payload.now reply.old at }
-    ensures { Obeys (obeying signal) book.now records.old payload.now reply.old
+    requires { (names_one signal ≡ true) × Named signal book.octets.now records.old payload.now reply.old at }
+    ensures { Obeys (obeying signal) book.entry.octets.now records.old payload.now reply.old
         result records.new reply.new }
 {
     match signal {
@@ -55,35 +57,39 @@ fn act(
         Signal::DelayReport => commands_stream::delays::delay_report(
             book, records, payload, reply, at,
         ),
-        // never: these name no endpoint, or several
-        Signal::Discover | Signal::Start | Signal::Suspend | Signal::Unassigned =>
-            commands_reply::general(),
+        // these name no endpoint, or several
+        Signal::Discover | Signal::Start | Signal::Suspend | Signal::Unassigned => unreachable!(),
     }
 }
 
 // A command that names one endpoint.
 fn on_endpoint(
     signal: Signal,
-    book: &[u8],
+    book: RightBook<'_>,
     records: &mut [u8],
     payload: &[u8],
     reply: &mut [u8],
 ) -> Said
-    requires { (names_one signal ≡ true) × Serves book.now records.old payload.now reply.old }
-    ensures { Obeys (obeying signal) book.now records.old payload.now reply.old
+    requires { (names_one signal ≡ true) × Serves book.octets.now records.old payload.now reply.old }
+    ensures { Obeys (obeying signal) book.entry.octets.now records.old payload.now reply.old
         result records.new reply.new }
 {
-    let met = preamble(signal, book, records, payload);
-    match met {
-        Met::Refused(code) => commands_reply::refused(reply, signal, 0, code),
-        Met::Here(at) => act(signal, book, records, payload, reply, at),
+    match preamble(signal, book, records, payload) {
+        Ok(at) => act(signal, book, records, payload, reply, at),
+        Err(code) => commands_reply::refused(reply, signal, 0, u8::from(code)),
     }
 }
 
 // A command, by its signal: 00 and what stands behind 0D are unassigned.
-pub fn obey(signal: u8, book: &[u8], records: &mut [u8], payload: &[u8], reply: &mut [u8]) -> Said
-    requires { Serves book.now records.old payload.now reply.old }
-    ensures { Obeys (obeying (signal_of signal)) book.now records.old payload.now
+pub fn obey(
+    signal: u8,
+    book: RightBook<'_>,
+    records: &mut [u8],
+    payload: &[u8],
+    reply: &mut [u8],
+) -> Said
+    requires { Serves book.octets.now records.old payload.now reply.old }
+    ensures { Obeys (obeying (signal_of signal)) book.entry.octets.now records.old payload.now
         reply.old result records.new reply.new }
 {
     let command = signal_of(signal);
@@ -91,7 +97,7 @@ pub fn obey(signal: u8, book: &[u8], records: &mut [u8], payload: &[u8], reply: 
         Signal::Discover => commands_show::discovers::discover(book, records, payload, reply),
         Signal::Start => commands_shift::start(book, records, payload, reply),
         Signal::Suspend => commands_shift::suspend(book, records, payload, reply),
-        Signal::Unassigned => commands_reply::general(),
+        Signal::Unassigned => Said::GeneralReject,
         _ => on_endpoint(command, book, records, payload, reply),
     }
 }
@@ -100,17 +106,17 @@ pub fn obey(signal: u8, book: &[u8], records: &mut [u8], payload: &[u8], reply: 
 #[tactic(auto, using(crate::proofs::Messages::no_command))]
 pub fn answer(
     header: Header,
-    book: &[u8],
+    book: RightBook<'_>,
     records: &mut [u8],
     payload: &[u8],
     reply: &mut [u8],
 ) -> Said
-    requires { Serves book.now records.old payload.now reply.old }
-    ensures { Obeys (answering header) book.now records.old payload.now
+    requires { Serves book.octets.now records.old payload.now reply.old }
+    ensures { Obeys (answering header) book.entry.octets.now records.old payload.now
         reply.old result records.new reply.new }
 {
     if header.mtype != 0 {
-        return commands_reply::silent();
+        return Said::Silence;
     }
     obey(header.signal, book, records, payload, reply)
 }

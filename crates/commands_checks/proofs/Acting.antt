@@ -1,8 +1,5 @@
 -- What a command on one endpoint leads to, from what is done there: the checks passed, so that the outcome is the command's own.
-use Prim.Native.Nat.{ℕ}
-use mathlib.Core.Path.{◌≡◌, ◌∙◌}
-use mathlib.Core.List.{List, []}
-use lib.ListN.{set}
+use Rattle.std.proofs.Common.{◌≡◌, ℕ, List, [], set, ◌∙◌}
 use Rattle.rules.specs.Octets.{front}
 use Rattle.rules.specs.Book.{Entry, book_of}
 use Rattle.rules.specs.Endpoints.{Endpoint}

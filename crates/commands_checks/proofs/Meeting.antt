@@ -1,13 +1,7 @@
 -- What the checks come to, against the definitions: by the length, by the SEID's place in the book, and by the state that the
 -- record there tells.
-use Prim.Native.Nat.{ℕ, ◌+◌, ◌*◌, ◌≤◌, ◌<◌}
-use mathlib.Core.Path.{◌≡◌, refl, sym, ap, ◌∙◌, subst}
-use mathlib.Core.List.{List}
-use mathlib.Core.Bool.{Bool, true, false}
-use native.Mathlib.Omega.{arith}
-use lib.ListN.{length, get_or}
-use borrow.Author.Tests.{eqb-true, leb-true}
-use Rattle.std.specs.Prelude.{if◌then◌else◌}
+use Rattle.std.proofs.Common.{◌≡◌, ℕ, ◌+◌, ◌*◌, ◌<◌, ◌≤◌, Bool, true, false, List, length, get_or, if◌then◌else◌, Some, None, Ok}
+use Rattle.std.proofs.Common.{Err, Option, ok_or, sym, refl, ap, ◌∙◌, subst, arith, eqb-true, leb-true}
 use Rattle.rules.specs.Book.{Entry, book_number, book_of}
 use Rattle.rules.specs.Endpoints.{Ends, end_at, legal_end}
 use Rattle.rules.specs.Saved.{record_room, config_room, head_in, ends_in, record_at}
@@ -24,17 +18,15 @@ use Rattle.rules.proofs.Places.{legal_at}
 use Rattle.rules.proofs.ShortReplies.{end_short}
 use Rattle.book.specs.Places.{place_in, found_by}
 use Rattle.book.specs.declared.places.Place.{Place}
-use Rattle.book.specs.declared.places.Located.{Located}
-use Rattle.book.specs.declared.places.Located.TheVariants.{Unknown, Known}
 use Rattle.book.proofs.Found.{entry_by, found_as, Placed, placed as placed-in}
 use Rattle.saved.specs.Records.{config_size_at, config_at}
 use Rattle.saved.specs.Held.{Held}
 use Rattle.saved.proofs.OneStore.{loaded_one, record_inside, length_told}
 use Rattle.commands_reply.specs.Obeys.{ends_of}
-use Rattle.commands_checks.specs.Met.{names_one, met_by, met_of, met_in}
+use Rattle.commands_reply.specs.declared.Code.{Code}
+use Rattle.commands_reply.specs.declared.Code.TheVariants.{NoEndpoint}
+use Rattle.commands_checks.specs.Met.{names_one, Met, met_told, met_by, met_of, met_in}
 use Rattle.commands_checks.specs.Named.{Named}
-use Rattle.commands_checks.specs.declared.preambles.Met.{Met}
-use Rattle.commands_checks.specs.declared.preambles.Met.TheVariants.{Refused, Here}
 
 -- ---- What the code answers
 
@@ -56,12 +48,15 @@ names_some DelayReport o n h = let e = eqb-true n 3 h in omega arith
 names_some Unassigned o n h = clash refl (sym o)
 
 module _ (signal : Signal) (book records : List ℕ) (s : OurSeid) where
-  pub met_unknown : place_in s book ≡ Unknown → Refused 0x12 ≡ met_of signal book records s
+  pub met_unknown : {located : Option Place} {e : Code} → located ≡ place_in s book → located ≡ None
+      → Err e ≡ ok_or located NoEndpoint → met_told (Err e) ≡ met_of signal book records s
   unfolding met_of met_by
-  met_unknown u = rw u
+  met_unknown {located} {e} l none told =
+      let unknown : e ≡ NoEndpoint = let r = rw none at told in cc in
+      rw (← l, none, unknown)
 
   module _ (right : book_number book ≡ 0) (held : Held (length (book_of book)) records) {at : Place}
-      (k : place_in s book ≡ Known at) where
+      (k : place_in s book ≡ Some at) where
     inside : at.index < length (book_of book)
     inside = (placed-in s book at.index at.kind at.from at.size right k).counted
 
@@ -75,11 +70,11 @@ module _ (signal : Signal) (book records : List ℕ) (s : OurSeid) where
           loaded_one (length (book_of book)) at.index records inside
           ∙ ap (λ (x : Head). record { head = x; config = config_at at.index records }) (sym got)
 
-      pub met_here : b ≡ true → Here at ≡ met_of signal book records s
+      pub met_here : b ≡ true → Ok at ≡ met_of signal book records s
       unfolding met_of met_by
       met_here t = rw (k, shown, ← test, t)
 
-      pub met_wrong : b ≡ false → {code : ℕ} → code ≡ wrong_state signal h.state → Refused code ≡ met_of signal book records s
+      pub met_wrong : b ≡ false → {code : ℕ} → code ≡ wrong_state signal h.state → Err code ≡ met_of signal book records s
       unfolding met_of met_by
       met_wrong f c = rw (k, shown, ← test, f, ← c)
 
@@ -88,28 +83,28 @@ module _ (signal : Signal) (book records p : List ℕ) {b : Bool} (test : b ≡ 
   unfolding met_in
   met_long t e = rw (← test, t) e
 
-  pub met_short : b ≡ false → Refused 0x11 ≡ met_in signal book records p
+  pub met_short : b ≡ false → Err 0x11 ≡ met_in signal book records p
   unfolding met_in
   met_short f = rw (← test, f)
 
 -- ---- What it comes to in the definitions
 
 unfoldable pub met_as : OurSeid → List ℕ → Met → MetBy
-met_as s b (Refused code) = refused code
-met_as s b (Here at) = here at.index (entry_by s b at.kind at.from at.size)
+met_as s b (Err code) = refused code
+met_as s b (Ok at) = here at.index (entry_by s b at.kind at.from at.size)
 
 by_may : (s : OurSeid) (b : List ℕ) (t : Bool) (at : Place) (code : ℕ)
     → (if t then here at.index (entry_by s b at.kind at.from at.size) else refused code)
-    ≡ met_as s b (if t then Here at else Refused code)
+    ≡ met_as s b (if t then Ok at else Err code)
 unfolding met_as
 by_may s b true at code = refl
 by_may s b false at code = refl
 
-by_place : (signal : Signal) (ends : Ends) (s : OurSeid) (b : List ℕ) (place : Located)
+by_place : (signal : Signal) (ends : Ends) (s : OurSeid) (b : List ℕ) (place : Option Place)
     → met_at signal ends (found_by s place b) ≡ met_as s b (met_by signal ends place)
 unfolding met_at found_by met_by met_as
-by_place signal ends s b Unknown = refl
-by_place signal ends s b (Known at) =
+by_place signal ends s b None = refl
+by_place signal ends s b (Some at) =
     by_may s b (may signal (end_at ends at.index).head.state (end_at ends at.index).head.channel) at
     (wrong_state signal (end_at ends at.index).head.state)
 
@@ -121,7 +116,7 @@ meets_as signal book records s =
     ∙ by_place signal (ends_of book records) s book (place_in s book)
 
 by_length : (b : Bool) (s : OurSeid) (book : List ℕ) (x : MetBy) (m : Met) → x ≡ met_as s book m
-    → (if b then x else refused 0x11) ≡ met_as s book (if b then m else Refused 0x11)
+    → (if b then x else refused 0x11) ≡ met_as s book (if b then m else Err 0x11)
 unfolding met_as
 by_length true s book x m e = e
 by_length false s book x m e = refl
@@ -148,12 +143,12 @@ module _ (signal : Signal) (book records p : List ℕ) (on : ℕ → Entry → O
       ap (at_met signal (ends_of book records) on)
       (preamble_as signal book records p ∙ ap (met_as (our_in (get_or p 0 0)) book) e)
 
-  pub refused_as : {code : ℕ} → met_in signal book records p ≡ Refused code
+  pub refused_as : {code : ℕ} → met_in signal book records p ≡ Err code
       → named signal (book_of book) (ends_of book records) p on ≡ stays (ends_of book records) (rejects signal 0 code)
   unfolding met_as at_met
   refused_as e = outcome e
 
-  pub acts_as : {at : Place} → met_in signal book records p ≡ Here at
+  pub acts_as : {at : Place} → met_in signal book records p ≡ Ok at
       → named signal (book_of book) (ends_of book records) p on ≡ on at.index (entry_in book p at)
   unfolding met_as at_met
   acts_as e = outcome e
@@ -171,45 +166,44 @@ pub record Stands (signal : Signal) (book records p : List ℕ) (at : Place) : T
   pub lawful : legal_end (entry_in book p at) (end_at (ends_of book records) at.index) ≡ true
   pub takes : let h = (end_at (ends_of book records) at.index).head in may signal h.state h.channel ≡ true
 
-record Seen (signal : Signal) (ends : Ends) (place : Located) (at : Place) : Type 0 where
-  there : place ≡ Known at
+record Seen (signal : Signal) (ends : Ends) (place : Option Place) (at : Place) : Type 0 where
+  there : place ≡ Some at
   takes : may signal (end_at ends at.index).head.state (end_at ends at.index).head.channel ≡ true
 
 seen_may : (signal : Signal) (ends : Ends) (known at : Place)
     → Told? (may signal (end_at ends known.index).head.state (end_at ends known.index).head.channel)
-    → met_by signal ends (Known known) ≡ Here at → Seen signal ends (Known known) at
+    → met_by signal ends (Some known) ≡ Ok at → Seen signal ends (Some known) at
 unfolding met_by
 seen_may signal ends known at (passed t) e =
-    let e' : Here known ≡ Here at = rw t at e in
+    let e' : ◌≡◌ {A = Met} (Ok known) (Ok at) = rw t at e in
     let same : known ≡ at = cc in
-    subst (λ (x : Place). Seen signal ends (Known known) x) same (record { there = refl; takes = t })
+    subst (λ (x : Place). Seen signal ends (Some known) x) same (record { there = refl; takes = t })
 seen_may signal ends known at (failed f) e =
-    let e' : Refused (wrong_state signal (end_at ends known.index).head.state) ≡ Here at = rw f at e in
-    let z : ◌≡◌ {A = ℕ} 0 1 = cc in
-    absurd (omega arith)
+    let e' : ◌≡◌ {A = Met} (Err (wrong_state signal (end_at ends known.index).head.state)) (Ok at) = rw f at e in
+    cc
 
-seen_place : (signal : Signal) (ends : Ends) (place : Located) (at : Place) → met_by signal ends place ≡ Here at
+seen_place : (signal : Signal) (ends : Ends) (place : Option Place) (at : Place) → met_by signal ends place ≡ Ok at
     → Seen signal ends place at
 unfolding met_by
-seen_place signal ends Unknown at e = let z : ◌≡◌ {A = ℕ} 0 1 = cc in absurd (omega arith)
-seen_place signal ends (Known known) at e =
+seen_place signal ends None at e = cc
+seen_place signal ends (Some known) at e =
     let h = (end_at ends known.index).head in
     seen_may signal ends known at (told (may signal h.state h.channel)) e
 
 -- where a SEID that passed stands
 pub met_placed : (signal : Signal) (book records : List ℕ) (s : OurSeid) (at : Place) → book_number book ≡ 0
-    → met_of signal book records s ≡ Here at → Placed s book at.index at.kind at.from at.size
+    → met_of signal book records s ≡ Ok at → Placed s book at.index at.kind at.from at.size
 unfolding met_of
 met_placed signal book records s at right e =
     placed-in s book at.index at.kind at.from at.size right (seen_place signal (ends_of book records) _ at e).there
 
 seen_long : (signal : Signal) (book records p : List ℕ) (at : Place) → Told? (length_right signal (length p))
-    → met_in signal book records p ≡ Here at
+    → met_in signal book records p ≡ Ok at
     → (length_right signal (length p) ≡ true) × Seen signal (ends_of book records) (place_in (our_in (get_or p 0 0)) book) at
 unfolding met_in met_of
 seen_long signal book records p at (passed t) e = (t, seen_place signal (ends_of book records) _ at (rw t at e))
 seen_long signal book records p at (failed f) e =
-    let e' : Refused 0x11 ≡ Here at = rw f at e in let z : ◌≡◌ {A = ℕ} 0 1 = cc in absurd (omega arith)
+    let e' : ◌≡◌ {A = Met} (Err 0x11) (Ok at) = rw f at e in cc
 
 pub stands : {signal : Signal} {book records p reply : List ℕ} {at : Place} → Named signal book records p reply at
     → Stands signal book records p at
@@ -227,6 +221,14 @@ stands {signal} {book} {records} {p} {reply} {at} call =
       lawful = legal_at where_it_is.place (ends_in n records) call.serves.lawful;
       takes = seen.1.takes;
     }
+
+-- Its record lies in the records, with a configuration.
+module _ {signal : Signal} {book records p reply : List ℕ} {at : Place} (call : Named signal book records p reply at) where
+  pub record_there : (at.index + 1) * record_room ≤ length records
+  record_there = (stands call).inside
+
+  pub config_there : config_size_at at.index records ≤ config_room
+  config_there = (stands call).told
 
 -- Its configuration is no longer than a reply may be.
 pub config_short : {signal : Signal} {book records p : List ℕ} {at : Place} → Stands signal book records p at

@@ -1,10 +1,14 @@
 // What is asked of a command by its signal: the length of its payload, and the state and channel of its endpoint.
 ghost use Rattle.std.specs.Prelude.{◌≡◌};
 ghost use Rattle.rules.specs.Commands.{signal_of, length_right, wrong_state, may as mayTake};
+ghost use Rattle.commands_reply.specs.Codes.{octet_of};
 
+use commands_reply::Code;
 use rules::{Channel, Signal, State};
 use saved_states::{is_configured, is_idle, is_open, is_set, is_streaming, is_up};
 
+// The signal of a number; any other is unassigned. A function and no `From`, which would have to stand in `rules`, away from the
+// tables that go by it: no plainer.
 #[tactic(auto, unfolding(rules::specs::Commands::signal_of))]
 pub fn signal_of(signal: u8) -> Signal
     ensures { result ≡ signal_of signal }
@@ -33,17 +37,15 @@ pub fn length_right(signal: Signal, length: usize) -> bool
 {
     match signal {
         Signal::Discover => length == 0,
-        Signal::GetCapabilities => length == 1,
+        Signal::GetCapabilities
+        | Signal::GetConfiguration
+        | Signal::OpenUp
+        | Signal::Close
+        | Signal::Abort
+        | Signal::GetAllCapabilities => length == 1,
         Signal::SetConfiguration => 2 <= length,
-        Signal::GetConfiguration => length == 1,
         Signal::Reconfigure => 3 <= length,
-        Signal::OpenUp => length == 1,
-        Signal::Start => 1 <= length,
-        Signal::Close => length == 1,
-        Signal::Suspend => 1 <= length,
-        Signal::Abort => length == 1,
-        Signal::SecurityControl => 1 <= length,
-        Signal::GetAllCapabilities => length == 1,
+        Signal::Start | Signal::Suspend | Signal::SecurityControl => 1 <= length,
         Signal::DelayReport => length == 3,
         Signal::Unassigned => true,
     }
@@ -55,42 +57,25 @@ pub fn may(signal: Signal, state: State, channel: Channel) -> bool
     ensures { result ≡ mayTake signal state channel }
 {
     match signal {
-        Signal::Discover => true,
-        Signal::GetCapabilities => true,
         Signal::SetConfiguration => is_idle(state),
-        Signal::GetConfiguration => is_set(state),
+        Signal::GetConfiguration | Signal::DelayReport => is_set(state),
         Signal::Reconfigure => is_open(state),
         Signal::OpenUp => is_configured(state),
         Signal::Start => is_open(state) && is_up(channel),
         Signal::Close => is_open(state) || is_streaming(state),
         Signal::Suspend => is_streaming(state),
-        Signal::Abort => true,
-        Signal::SecurityControl => true,
-        Signal::GetAllCapabilities => true,
-        Signal::DelayReport => is_set(state),
-        Signal::Unassigned => true,
+        _ => true,
     }
 }
 
 // The code where it does not.
-#[tactic(auto, unfolding(rules::specs::Commands::wrong_state))]
-pub fn wrong_state(signal: Signal, state: State) -> u8
-    ensures { result ≡ wrong_state signal state }
+#[tactic(auto, unfolding(rules::specs::Commands::wrong_state, rules::specs::Endpoints::is_idle))]
+pub fn wrong_state(signal: Signal, state: State) -> Code
+    ensures { octet_of result ≡ wrong_state signal state }
 {
-    match signal {
-        Signal::Discover => 0x31,
-        Signal::GetCapabilities => 0x31,
-        Signal::SetConfiguration => 0x13,
-        Signal::GetConfiguration => 0x31,
-        Signal::Reconfigure => { if is_idle(state) { 0x14 } else { 0x31 } }
-        Signal::OpenUp => 0x31,
-        Signal::Start => 0x31,
-        Signal::Close => 0x31,
-        Signal::Suspend => 0x31,
-        Signal::Abort => 0x31,
-        Signal::SecurityControl => 0x31,
-        Signal::GetAllCapabilities => 0x31,
-        Signal::DelayReport => 0x31,
-        Signal::Unassigned => 0x31,
+    match (signal, state) {
+        (Signal::SetConfiguration, _) => Code::InUse,
+        (Signal::Reconfigure, State::Idle) => Code::NotInUse,
+        _ => Code::WrongState,
     }
 }

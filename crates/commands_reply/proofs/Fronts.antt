@@ -1,9 +1,5 @@
 -- One or two octets written one by one are written at the front.
-use Prim.Native.Nat.{ℕ, ◌≤◌}
-use mathlib.Core.Path.{◌≡◌, refl}
-use mathlib.Core.List.{List, [], ◌∷◌}
-use native.Mathlib.Omega.{arith}
-use lib.ListN.{length, set}
+use Rattle.std.proofs.Common.{◌≡◌, ℕ, ◌≤◌, List, [], ◌∷◌, length, set, refl, arith}
 use Rattle.rules.specs.Octets.{front}
 
 pub front_one : (l : List ℕ) (a : ℕ) → 1 ≤ length l → set l 0 a ≡ front (a ∷ []) l

@@ -1,8 +1,5 @@
 -- What every command's proof ends with: what an outcome makes of the areas.
-use Prim.Native.Nat.{ℕ}
-use mathlib.Core.Path.{◌≡◌, refl, sym, ap, ◌∙◌}
-use mathlib.Core.List.{List, []}
-use lib.ListN.{length, set}
+use Rattle.std.proofs.Common.{◌≡◌, ℕ, List, [], length, set, sym, refl, ap, ◌∙◌}
 use Rattle.rules.specs.Octets.{front}
 use Rattle.rules.specs.Book.{Book, book_of}
 use Rattle.rules.specs.Endpoints.{Endpoint, Ends}

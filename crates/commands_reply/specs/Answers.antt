@@ -1,17 +1,17 @@
 -- What a command says, and what the records and the reply area hold then, in the words of the definitions.
-use Rattle.std.specs.Prelude.{ℕ, List}
-use lib.ListN.{length}
+use Rattle.std.specs.Prelude.{ℕ, List, length}
 use Rattle.rules.specs.Octets.{front}
 use Rattle.rules.specs.Saved.{store_ends}
 use Rattle.rules.specs.Commands.{Reply, silence, general_reject, accept, reject, Outcome}
 use Rattle.rules.specs.Host.{payload_of}
 use Rattle.commands_reply.specs.declared.Said.{Said}
+use Rattle.commands_reply.specs.declared.Said.TheVariants.{Silence, GeneralReject, Accept, Reject}
 
-unfoldable pub said_of : Reply → Said
-said_of silence = record { mtype = 0; length = 0 }
-said_of general_reject = record { mtype = 1; length = 0 }
-said_of (accept p) = record { mtype = 2; length = lib.ListN.length p }
-said_of (reject p) = record { mtype = 3; length = lib.ListN.length p }
+abbrev pub said_of : Reply → Said
+said_of silence = Silence
+said_of general_reject = GeneralReject
+said_of (accept p) = Accept (length p)
+said_of (reject p) = Reject (length p)
 
 -- an answer with both areas at exit
 pub record Did : Type 0 where

@@ -1,63 +1,59 @@
-// Replies that a command writes at the front of the reply area, and what is said without writing.
+// What a command says, and the rejects that it writes at the front of the reply area.
 #![tactic(auto)]
 
 ghost use Rattle.std.specs.Prelude.{◌≡◌, [], ◌∷◌, ◌≤◌, length};
 ghost use Rattle.rules.specs.Octets.{front};
-ghost use Rattle.rules.specs.Commands.{silence, general_reject, accept, reject, rejects};
+ghost use Rattle.rules.specs.Commands.{reject, rejects};
 ghost use Rattle.rules.specs.Host.{payload_of};
 ghost use Rattle.commands_reply.specs.Answers.{said_of};
+ghost use Rattle.commands_reply.specs.Codes.{octet_of};
 
 use rules::{Fault, Signal};
 
-// What is said to the far end: the message type (0 silence, 1 general reject, 2 accept, 3 reject) and the length of the payload.
+// What is said to the far end: nothing, that the signal is not known, or an answer with the length of its payload, which stands
+// at the front of the reply area.
 #[derive(Drop)]
-pub struct Said {
-    pub mtype: u8,
-    pub length: usize,
+pub enum Said {
+    Silence,
+    GeneralReject,
+    Accept { length: usize },
+    Reject { length: usize },
 }
 
-pub fn silent() -> Said
-    ensures { result ≡ said_of silence }
-{
-    Said {
-        mtype: 0,
-        length: 0,
-    }
+// Why a command is rejected, where no element is at fault (001, 8.20.6.2): its length is another than expected, the book has no
+// such endpoint, that is in use or is not, the payload's form, what is not supported here, the endpoint's state.
+#[derive(Clone, Copy)]
+pub enum Code {
+    Length = 0x11,
+    NoEndpoint = 0x12,
+    InUse = 0x13,
+    NotInUse = 0x14,
+    Form = 0x18,
+    NotSupported = 0x19,
+    WrongState = 0x31,
 }
 
-pub fn general() -> Said
-    ensures { result ≡ said_of general_reject }
-{
-    Said {
-        mtype: 1,
-        length: 0,
-    }
-}
+impl From<Code> for u8 {
+    ghost from_gives = { λ code octet. octet ≡ octet_of code };
 
-// An accept without payload.
-pub fn accepted() -> Said
-    ensures { result ≡ said_of (accept []) }
-{
-    Said {
-        mtype: 2,
-        length: 0,
+    fn from(code: Code) -> u8 {
+        code as u8
     }
 }
 
 // A reject of one octet, the code.
+#[tactic(auto, using(crate::proofs::Fronts::front_one))]
 pub fn rejected(reply: &mut [u8], code: u8) -> Said
     requires { 1 ≤ length reply.old }
     ensures said { result ≡ said_of (reject (code ∷ [])) }
     ensures reply { reply.new ≡ front (code ∷ []) reply.old }
 {
     reply[0] = code;
-    Said {
-        mtype: 3,
-        length: 1,
-    }
+    Said::Reject { length: 1 }
 }
 
 // A reject of two octets, what failed and the code.
+#[tactic(auto, using(crate::proofs::Fronts::front_two))]
 pub fn rejected_for(reply: &mut [u8], what: u8, code: u8) -> Said
     requires { 2 ≤ length reply.old }
     ensures said { result ≡ said_of (reject (what ∷ code ∷ [])) }
@@ -65,10 +61,7 @@ pub fn rejected_for(reply: &mut [u8], what: u8, code: u8) -> Said
 {
     reply[0] = what;
     reply[1] = code;
-    Said {
-        mtype: 3,
-        length: 2,
-    }
+    Said::Reject { length: 2 }
 }
 
 // A reject for an element that failed.
@@ -81,6 +74,7 @@ pub fn rejected_element(reply: &mut [u8], fault: Fault) -> Said
 }
 
 // A reject by the signal: what failed and the code, the code, or nothing.
+#[tactic(auto, unfolding(rules::specs::Commands::rejects, rules::specs::Host::payload_of, rules::specs::Octets::front))]
 pub fn refused(reply: &mut [u8], signal: Signal, what: u8, code: u8) -> Said
     requires { 2 ≤ length reply.old }
     ensures said { result ≡ said_of (rejects signal what code) }
@@ -89,8 +83,8 @@ pub fn refused(reply: &mut [u8], signal: Signal, what: u8, code: u8) -> Said
     match signal {
         Signal::SetConfiguration | Signal::Reconfigure | Signal::Start | Signal::Suspend =>
             rejected_for(reply, what, code),
-        Signal::Abort => silent(),
-        Signal::Unassigned => general(),
+        Signal::Abort => Said::Silence,
+        Signal::Unassigned => Said::GeneralReject,
         _ => rejected(reply, code),
     }
 }

@@ -1,12 +1,7 @@
 -- What Reconfigure does at the endpoint that was met: the stored configuration is copied and checked for its marks, which it
 -- passes since it could be stored, and with the new elements in place it could be stored again.
-use Prim.Native.Nat.{ℕ, ◌+◌, ◌*◌, ◌≤◌}
-use mathlib.Core.Path.{◌≡◌, refl, sym, ap, ap₂, ◌∙◌, subst}
-use mathlib.Core.List.{List, [], ◌∷◌}
-use mathlib.Core.Bool.{true, false}
-use native.Mathlib.Nat.{le_trans}
-use native.Mathlib.Omega.{arith}
-use lib.ListN.{length, take, drop}
+use Rattle.std.proofs.Common.{◌≡◌, ℕ, ◌+◌, ◌*◌, ◌≤◌, true, false, List, [], ◌∷◌, length, take, drop, Ok, Err, Result, sym, refl}
+use Rattle.std.proofs.Common.{ap, ◌∙◌, subst, ap₂, le_trans, arith}
 use Rattle.rules.specs.Octets.{front}
 use Rattle.rules.specs.Elements.{items, fault_in, restored, could_store}
 use Rattle.rules.specs.Endpoints.{Endpoint, is_idle, with_config, end_at}
@@ -26,8 +21,6 @@ use Rattle.octets.proofs.Patches.{part_patch}
 use Rattle.elements.specs.Marks.{no_marks, marks_from}
 use Rattle.elements.specs.Walks.{check_of}
 use Rattle.elements.specs.declared.marks.Marks.{Marks}
-use Rattle.elements.specs.declared.walks.Walked.{Walked}
-use Rattle.elements.specs.declared.walks.Walked.TheVariants.{Failed, Clean}
 use Rattle.elements.proofs.Judging.{check_clean}
 use Rattle.elements_stored.specs.Stores.{marked_store, MarksFit}
 use Rattle.elements_stored.proofs.Stores.{Stores, could_checked, again_stores}
@@ -79,11 +72,11 @@ module _ {records payload : List ℕ} {i : ℕ} {h : Head} {m : Marks} (r : Rene
 
     module _ {k : Marks} (marks : k ≡ marks_from old 0 no_marks) where
       -- what is stored has no fault
-      found : check_of Setting (items r.caps) old 0 ≡ Clean k
+      found : check_of Setting (items r.caps) old 0 ≡ Ok k
       found =
           ap (λ (l : List ℕ). check_of Setting (items r.caps) l 0) same
           ∙ could_checked (items r.caps) (config_at i records) r.could
-          ∙ ap Clean (ap (λ (l : List ℕ). marks_from l 0 no_marks) (sym same) ∙ sym marks)
+          ∙ ap Ok (ap (λ (l : List ℕ). marks_from l 0 no_marks) (sym same) ∙ sym marks)
 
       stores : Stores payload m old k (restored (items (drop 1 payload)) (items old))
       stores = again_stores (items r.caps) payload 1 old r.clean found
@@ -91,10 +84,11 @@ module _ {records payload : List ℕ} {i : ℕ} {h : Head} {m : Marks} (r : Rene
       store_same : marked_store payload m old k ≡ anew
       store_same = stores.same ∙ ap (λ (l : List ℕ). restored (items (drop 1 payload)) (items l)) same
 
-      pub renew_keeps : ((i + 1) * record_room ≤ length records) × MarksFit payload m × MarksFit old k
-          × (length (marked_store payload m old k) ≤ 64)
-      renew_keeps =
-          (r.inside, stores.fresh, stores.left, subst (λ (l : List ℕ). length l ≤ 64) (sym store_same) anew_short)
+      pub renew_fits : MarksFit old k
+      renew_fits = stores.left
+
+      pub renew_keeps : ((i + 1) * record_room ≤ length records) × (length (marked_store payload m old k) ≤ 64)
+      renew_keeps = (r.inside, subst (λ (l : List ℕ). length l ≤ 64) (sym store_same) anew_short)
 
       pub renew_writes : {records' : List ℕ}
           → records' ≡ patch (i * record_room) (kept_octets h (marked_store payload m old k)) records
@@ -105,8 +99,8 @@ module _ {records payload : List ℕ} {i : ℕ} {h : Head} {m : Marks} (r : Rene
 
 module _ {book records p reply : List ℕ} {at : Place} (call : Named Reconfigure book records p reply at) where
   -- what the check of the elements finds
-  abbrev Finds : Walked → Type 0
-  Finds w = check_of Reconfiguring (items (take at.size (drop at.from book))) p 1 ≡ w
+  abbrev Finds : Result Marks Fault → Type 0
+  Finds w = check_of Reconfiguring (items (part at.from at.size book)) p 1 ≡ w
 
   config_here : (end_at (ends_of book records) at.index).config ≡ config_at at.index records
   config_here = ap (λ (e : Endpoint). e.config) (stands call).shows
@@ -115,11 +109,12 @@ module _ {book records p reply : List ℕ} {at : Place} (call : Named Reconfigur
   unfolding may
   busy = open_busy (end_at (ends_of book records) at.index).head.state (stands call).takes
 
-  pub renews : {h : Head} {m : Marks} → h ≡ head_in (record_at at.index records) → Finds (Clean m)
+  pub renews : {h : Head} {m : Marks} → h ≡ head_in (record_at at.index records) → Finds (Ok m)
       → Renews records p at.index h m
+  unfolding part
   renews loads e =
       let it = end_at (ends_of book records) at.index in
-      let offers = take at.size (drop at.from book) in
+      let offers = part at.from at.size book in
       let settings = busy_keeps (entry_in book p at) it (stands call).lawful busy in
       record {
         caps = offers;
@@ -133,27 +128,27 @@ module _ {book records p reply : List ℕ} {at : Place} (call : Named Reconfigur
         clean = e;
       }
 
-  checked : {w : Walked} → Finds w
+  checked : {w : Result Marks Fault} → Finds w
       → reconfigure_at (ends_of book records) p at.index (entry_in book p at)
       ≡ answered Reconfigure (ends_of book records)
       (moves (ends_of book records) at.index
       (with_config (restored (items (drop 1 p)) (items (end_at (ends_of book records) at.index).config))
       (end_at (ends_of book records) at.index)))
       w
-  unfolding reconfigure_at check_of
+  unfolding reconfigure_at check_of part
   checked e =
-      let caps = items (take at.size (drop at.from book)) in
+      let caps = items (part at.from at.size book) in
       fault_answered Reconfigure (fault_in Reconfiguring caps (items (drop 1 p))) (marks_from p 1 no_marks)
       (ends_of book records) _ e
 
-  pub fault_refused : {f : Fault} → Finds (Failed f) → {said : Said} {reply' : List ℕ}
-      → (said ≡ said_of (reject (f.category ∷ f.code ∷ []))) × (reply' ≡ front (f.category ∷ f.code ∷ []) reply)
+  pub fault_refused : {f : Fault} {said : Said} {reply' : List ℕ} → Finds (Err f)
+      → said ≡ said_of (reject (f.category ∷ f.code ∷ [])) → reply' ≡ front (f.category ∷ f.code ∷ []) reply
       → Obeys (obey Reconfigure) book records p reply said records reply'
   unfolding obey rejects_fault rejects payload_of
-  fault_refused {f} e h =
-      did_say call (reconfigure_at (ends_of book records) p) refl (rejects_fault Reconfigure f) (checked e) h.0 h.1
+  fault_refused {f} e s w =
+      did_say call (reconfigure_at (ends_of book records) p) refl (rejects_fault Reconfigure f) (checked e) s w
 
-  pub anew_moves : {m : Marks} {h : Head} {said : Said} {records' : List ℕ} → Finds (Clean m)
+  pub anew_moves : {m : Marks} {h : Head} {said : Said} {records' : List ℕ} → Finds (Ok m)
       → h ≡ head_in (record_at at.index records) → said ≡ said_of (accept [])
       → records'
       ≡ patch (at.index * record_room)

@@ -3,5 +3,6 @@
 #![tactic(auto)]
 
 mod keeps;
+mod offers;
 pub mod renewals;
 pub mod settings;

@@ -11,54 +11,58 @@ ghost use Rattle.commands_checks.specs.Named.{Named};
 ghost use Rattle.commands_set.specs.Kept.{Renews, kept_octets};
 
 use crate::keeps::keep;
-use book::places::Place;
+use crate::offers::offer;
+use book::places::{Place, RightBook};
 use commands_reply::Said;
-use elements::marks::{Marks, none};
-use elements::walks::{RECONFIGURING, Walked, check, places};
+use elements::judges::Command;
+use elements::marks::Marks;
+use elements::walks::{check, places};
+use elements_stored::config::Picks;
 use rules::Head;
+use rules::layout::CONFIG;
 use saved::records::{config, get};
 
 // The elements are checked: they take the place of those of the stored configuration, or are added to them. What is stored is
 // copied first, as it is read while it is written anew.
-fn renew(records: &mut [u8], payload: &[u8], index: usize, head: Head, marks: Marks)
-    requires { Renews records.old payload.now index head marks }
+fn renew(records: &mut [u8], index: usize, head: Head, new: Picks<'_>)
+    requires { Renews records.old new.list.now index head new.marks }
     ensures { records.new
         ≡ patch (index * record_room)
-        (kept_octets head (restored (items (drop 1 payload.now)) (items (config_at index records.old))))
+        (kept_octets head (restored (items (drop 1 new.entry.list.now)) (items (config_at index records.old))))
         records.old }
 {
-    let mut copy = [0u8; 64];
+    // an array and its front: a vector of fixed room would be the one thing that the library takes of the kit besides std
+    let mut copy = [0u8; CONFIG];
     let stored = config(records, index);
     let size = stored.len();
     octets::put(&mut copy, 0, stored);
-    let old = &copy[..size];
-    let left = places(old, 0, none());
-    keep(records, index, head, payload, marks, old, left);
+    let list = &copy[..size];
+    let marks = places(list, 0, Marks::none());
+    keep(records, index, head, new, Picks { list, marks });
 }
 
+#[tactic(auto, using(commands_checks::proofs::Meeting::record_there))]
 pub fn reconfigure(
-    book: &[u8],
+    book: RightBook<'_>,
     records: &mut [u8],
     payload: &[u8],
     reply: &mut [u8],
     at: Place,
 ) -> Said
-    requires { Named Reconfigure book.now records.old payload.now reply.old at }
-    ensures { Obeys (obey Reconfigure) book.now records.old payload.now
+    requires { Named Reconfigure book.octets.now records.old payload.now reply.old at }
+    ensures { Obeys (obey Reconfigure) book.entry.octets.now records.old payload.now
         reply.old result records.new reply.new }
 {
-    let walked = check(
-        RECONFIGURING,
-        octets::part(book, at.from, at.size),
-        payload,
-        1,
-    );
-    match walked {
-        Walked::Failed(fault) => commands_reply::rejected_element(reply, fault),
-        Walked::Clean(marks) => {
+    match check(Command::Reconfiguring, offer(book, at), payload, 1) {
+        Err(fault) => commands_reply::rejected_element(reply, fault),
+        Ok(marks) => {
+            let new = Picks {
+                list: payload,
+                marks,
+            };
             let h = get(records, at.index);
-            renew(records, payload, at.index, h, marks);
-            commands_reply::accepted()
+            renew(records, at.index, h, new);
+            Said::Accept { length: 0 }
         }
     }
 }

@@ -1,12 +1,8 @@
 -- Start and Suspend, SEID by SEID: the records show the endpoints that the definition has reached, and hold what storing those
 -- over the first records gives. So what is left of the listed SEIDs decides, and a stop leaves what was shifted.
-use Prim.Native.Nat.{ℕ, suc, ◌+◌, ◌*◌, ◌/◌, ◌≤◌, ◌<◌}
-use native.Mathlib.Numerals.{add-one}
-use mathlib.Core.Path.{◌≡◌, refl, sym, ap, ◌∙◌}
-use mathlib.Core.List.{List, []}
-use mathlib.Core.Bool.{true, false}
-use lib.ListN.{length, drop, get_or, set}
-use lib.Seq.{drop-cons, drop-length}
+use Rattle.std.proofs.Common.{◌≡◌, ℕ, suc, ◌+◌, ◌*◌, ◌/◌, ◌<◌, ◌≤◌, true, false, List, [], length, get_or, drop, set, Ok, Err}
+use Rattle.std.proofs.Common.{sym, refl, ap, ◌∙◌, add-one, drop-cons}
+use lib.Seq.{drop-length}
 use Rattle.rules.specs.Octets.{front}
 use Rattle.rules.specs.Book.{book_number, book_of}
 use Rattle.rules.specs.Endpoints.{Ends, in_state, moved_by, end_at}
@@ -26,9 +22,7 @@ use Rattle.saved.specs.Serves.{Serves}
 use Rattle.saved.proofs.OneStore.{record_inside}
 use Rattle.commands_reply.specs.Obeys.{ends_of, Obeys}
 use Rattle.commands_reply.proofs.Serving.{unmoved, obeys, obeys_stay}
-use Rattle.commands_checks.specs.Met.{met_of}
-use Rattle.commands_checks.specs.declared.preambles.Met.{Met}
-use Rattle.commands_checks.specs.declared.preambles.Met.TheVariants.{Refused, Here}
+use Rattle.commands_checks.specs.Met.{Met, met_of}
 use Rattle.commands_checks.proofs.Meeting.{met_as, meets_as, met_placed}
 use Rattle.saved.proofs.HeadMoved.{moved_stored}
 use Rattle.commands_shift.proofs.StoredOver.{Kept, kept_same, kept_set, kept_length, kept_short, store_over}
@@ -85,7 +79,7 @@ module _ (signal : Signal) (to : State) where
           (meets_as signal book l s ∙ ap (met_as s book) e))
 
       pub stopped : length_right signal (length p) ≡ true → {code : ℕ}
-          → met_of signal book l (our_in (get_or p i 0)) ≡ Refused code
+          → met_of signal book l (our_in (get_or p i 0)) ≡ Err code
           → {said : Said} (area : List ℕ) {area' : List ℕ}
           → said ≡ said_of (rejects signal (get_or p i 0 / 4 * 4) code)
           → area' ≡ front (payload_of (rejects signal (get_or p i 0 / 4 * 4) code)) area
@@ -93,7 +87,7 @@ module _ (signal : Signal) (to : State) where
       unfolding met_as shift_one our_in
       stopped right {code} e area s a = answers right (rejects signal (get_or p i 0 / 4 * 4) code) (on_shift e) area s a
 
-      module _ (right : book_number book ≡ 0) {at : Place} (met : met_of signal book l (our_in (get_or p i 0)) ≡ Here at) where
+      module _ (right : book_number book ≡ 0) {at : Place} (met : met_of signal book l (our_in (get_or p i 0)) ≡ Ok at) where
         counted : at.index < length (book_of book)
         counted = (met_placed signal book l (our_in (get_or p i 0)) at right met).counted
 

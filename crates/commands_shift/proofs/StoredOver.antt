@@ -1,14 +1,7 @@
 -- Of two stores one over the other the later counts, where every endpoint keeps its configuration: what is written of a record
 -- then reaches as far as what was written of it before.
-use Prim.Native.Nat.{ℕ, zero, suc}
-use native.Mathlib.Omega.{arith}
-use mathlib.Core.Path.{◌≡◌, refl, ap, ap₂, ◌∙◌}
-use mathlib.Core.List.{List, [], ◌∷◌, ◌++◌}
-use mathlib.Core.Bool.{true}
-use lib.Dec.{leb}
-use lib.ListN.{length, take, drop, set}
-use lib.Seq.{take_at, drop_at}
-use borrow.Author.Tests.{leb-true}
+use Rattle.std.proofs.Common.{◌≡◌, ℕ, zero, suc, true, leb, List, [], ◌∷◌, ◌++◌, length, take, drop, set, refl, ap, ◌∙◌, ap₂}
+use Rattle.std.proofs.Common.{arith, take_at, drop_at, leb-true}
 use Rattle.rules.specs.Octets.{each_of, front}
 use Rattle.rules.specs.Endpoints.{Endpoint, Ends, end_at}
 use Rattle.rules.specs.Saved.{record_room, head_octets, store_end, store_ends}

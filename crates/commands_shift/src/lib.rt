@@ -11,10 +11,13 @@ ghost use Rattle.saved.specs.Records.{config_size_at};
 ghost use Rattle.saved.specs.Serves.{Serves};
 ghost use Rattle.commands_reply.specs.Obeys.{Obeys};
 
-use commands_checks::preambles::{Met, meets};
+use book::places::RightBook;
+use commands_checks::preambles::meets;
 use commands_checks::tables::length_right;
-use commands_reply::Said;
+use commands_reply::{Code, Said};
 use rules::{OurSeid, Signal, State};
+use saved::records::{get, set_head};
+use saved_moves::in_state;
 
 // Endpoint `index` in the state `to`.
 fn shift_one(records: &mut [u8], index: usize, to: State)
@@ -24,45 +27,43 @@ fn shift_one(records: &mut [u8], index: usize, to: State)
         (head_octets (in_state to (head_in (record_at index records.old))) (config_size_at index records.old))
         records.old }
 {
-    let h = saved::records::get(records, index);
-    saved::records::set_head(records, index, saved_moves::in_state(h, to));
+    let h = get(records, index);
+    set_head(records, index, in_state(h, to));
 }
 
+// The SEIDs of the payload in turn: what Start and Suspend share, which differ in the state.
 fn shift(
     signal: Signal,
     to: State,
-    book: &[u8],
+    book: RightBook<'_>,
     records: &mut [u8],
     payload: &[u8],
     reply: &mut [u8],
 ) -> Said
-    requires { Serves book.now records.old payload.now reply.old }
-    ensures { Obeys (shift_by signal to) book.now records.old payload.now
+    requires { Serves book.octets.now records.old payload.now reply.old }
+    ensures { Obeys (shift_by signal to) book.entry.octets.now records.old payload.now
         reply.old result records.new reply.new }
 {
     if !length_right(signal, payload.len()) {
-        return commands_reply::refused(reply, signal, 0, 0x11);
+        return commands_reply::refused(reply, signal, 0, Code::Length as u8);
     }
-    let mut i = 0;
-    while i < payload.len() {
-        let seid = payload[i] / 4;
-        let met = meets(signal, book, records, OurSeid(seid));
-        match met {
-            Met::Refused(code) => {
-                return commands_reply::refused(reply, signal, seid * 4, code);
+    for octet in payload {
+        let seid = *octet / 4;
+        match meets(signal, book, records, OurSeid(seid)) {
+            Ok(at) => shift_one(records, at.index, to),
+            Err(code) => {
+                return commands_reply::refused(reply, signal, seid * 4, u8::from(code));
             }
-            Met::Here(at) => shift_one(records, at.index, to),
         }
-        i += 1;
     }
-    commands_reply::accepted()
+    Said::Accept { length: 0 }
 }
 
 // 07 Start.
 #[tactic(auto, unfolding(rules::specs::Commands::obey))]
-pub fn start(book: &[u8], records: &mut [u8], payload: &[u8], reply: &mut [u8]) -> Said
-    requires { Serves book.now records.old payload.now reply.old }
-    ensures { Obeys (obey Start) book.now records.old payload.now reply.old
+pub fn start(book: RightBook<'_>, records: &mut [u8], payload: &[u8], reply: &mut [u8]) -> Said
+    requires { Serves book.octets.now records.old payload.now reply.old }
+    ensures { Obeys (obey Start) book.entry.octets.now records.old payload.now reply.old
         result records.new reply.new }
 {
     shift(
@@ -77,9 +78,9 @@ pub fn start(book: &[u8], records: &mut [u8], payload: &[u8], reply: &mut [u8]) 
 
 // 09 Suspend.
 #[tactic(auto, unfolding(rules::specs::Commands::obey))]
-pub fn suspend(book: &[u8], records: &mut [u8], payload: &[u8], reply: &mut [u8]) -> Said
-    requires { Serves book.now records.old payload.now reply.old }
-    ensures { Obeys (obey Suspend) book.now records.old payload.now reply.old
+pub fn suspend(book: RightBook<'_>, records: &mut [u8], payload: &[u8], reply: &mut [u8]) -> Said
+    requires { Serves book.octets.now records.old payload.now reply.old }
+    ensures { Obeys (obey Suspend) book.entry.octets.now records.old payload.now reply.old
         result records.new reply.new }
 {
     shift(Signal::Suspend, State::Open, book, records, payload, reply)

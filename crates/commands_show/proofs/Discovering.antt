@@ -1,24 +1,26 @@
 -- Discover's answer entry by entry: what is left of it is told by the place of the next entry and by how many were passed.
-use Prim.Native.Nat.{ℕ, zero, suc, ◌+◌, ◌-◌, ◌*◌, ◌≤◌}
-use mathlib.Core.Path.{◌≡◌, refl, sym, ap, ap₂, ◌∙◌, subst}
-use mathlib.Core.List.{List, ◌∷◌}
-use mathlib.Core.Bool.{true, ◌&&◌}
-use native.Mathlib.Omega.{arith}
-use lib.ListN.{length, drop, get_or, set, length-set}
-use lib.Seq.{drop-drop}
-use Rattle.rules.specs.Octets.{each_of}
+use Rattle.std.proofs.Common.{◌≡◌, ℕ, zero, suc, ◌+◌, ◌-◌, ◌*◌, ◌≤◌, Bool, true, false, ◌&&◌, List, [], ◌∷◌, length, get_or, drop}
+use Rattle.std.proofs.Common.{set, if◌then◌else◌, sym, refl, ap, ◌∙◌, subst, ap₂, arith, length-set, drop-drop}
+use Rattle.rules.specs.Octets.{each_of, front}
 use Rattle.rules.specs.Book.{Entry, Book, book_number, entries_in, book_of}
 use Rattle.rules.specs.Saved.{record_room, endpoint_in, ends_in, record_at}
-use Rattle.rules.specs.Commands.{accept, in_use, discovered}
+use Rattle.rules.specs.Commands.{accept, reject, stays, rejects, length_right, in_use, discovered, discover, obey}
+use Rattle.rules.specs.declared.Signal.TheVariants.{Discover}
 use Rattle.rules.specs.Host.{payload_of}
-use Rattle.commands_reply.specs.Answers.{said_of}
+use Rattle.commands_reply.specs.declared.Said.TheVariants.{Accept}
 use Rattle.rules.proofs.Tests.{and_l, and_r, between_most}
 use Rattle.rules.proofs.RightBook.{entry_right, right_book}
 use Rattle.octets.specs.Patch.{patch}
 use Rattle.octets.proofs.Patches.{front_patch, patch_none, patch_behind}
-use Rattle.book.proofs.Entries.{RightEntry, RightEntries, first_entry, other_entries, right_head}
+use Rattle.book.specs.Entries.{RightEntry}
+use Rattle.book.proofs.Entries.{RightEntries, first_entry, other_entries, right_head}
 use Rattle.book.proofs.Found.{entry_by, entries_first, book_length}
-use Rattle.commands_show.specs.Says.{Says}
+use Rattle.saved.specs.Serves.{Serves}
+use Rattle.commands_reply.specs.Answers.{said_of}
+use Rattle.commands_reply.specs.declared.Said.{Said}
+use Rattle.commands_reply.specs.Obeys.{ends_of, Obeys}
+use Rattle.commands_reply.proofs.Serving.{obeys_stay}
+use Rattle.commands_show.specs.Shown.{all}
 
 -- ---- The entries that are left
 
@@ -61,10 +63,6 @@ module _ (n left : ℕ) (b : List ℕ) (at : ℕ) (e : left ≡ suc n) (h : Left
 
 abbrev pub octets_left : ℕ → List ℕ → ℕ → List ℕ → ℕ → List ℕ
 octets_left n b at l i = discovered (entries_in n (drop at b)) (ends_in n (drop (i * record_room) l))
-
--- the whole answer
-abbrev pub all : List ℕ → List ℕ → List ℕ
-all b l = discovered (book_of b) (ends_in (length (book_of b)) l)
 
 pub all_octets : (b l : List ℕ) (n : ℕ) → n ≡ length (book_of b) → octets_left (n - 0) b 6 l 0 ≡ all b l
 unfolding book_of
@@ -116,16 +114,35 @@ module _ (n left : ℕ) (b : List ℕ) (at : ℕ) (l : List ℕ) (i : ℕ) (e : 
 -- none is left, so that all is said
 pub octets_said : (left : ℕ) (b : List ℕ) (at : ℕ) (l : List ℕ) (i n : ℕ) (d before : List ℕ) → left ≡ 0 → n ≡ length (book_of b)
     → patch (i * 2) (octets_left left b at l i) d ≡ patch 0 (all b l) before
-    → Says (accept (all b l)) (record { mtype = 2; length = n * 2 }) before d
-unfolding said_of payload_of discovered entries_in
+    → (Accept (n * 2) ≡ said_of (accept (all b l))) × (d ≡ front (all b l) before)
+unfolding discovered entries_in
 octets_said left b at l i n d before none e inv =
-    let size : (n - 0) * 2 ≡ n * 2 = omega arith in
-    record {
-      told =
-          ap (λ (k : ℕ). record { mtype = 2; length = k })
-          (sym (octets_length (n - 0) (drop 6 b) l ∙ size) ∙ ap length (all_octets b l n e));
-      written =
-          patch_none (i * 2) d
+    let size : (n - 0) * 2 ≡ n * 2 = omega arith in (
+      ap Accept (sym (octets_length (n - 0) (drop 6 b) l ∙ size) ∙ ap length (all_octets b l n e)),
+      patch_none (i * 2) d
           ∙ ap (λ (k : ℕ). patch (i * 2) (octets_left k b at l i) d) (sym none)
-          ∙ inv ∙ sym (front_patch (all b l) before);
-    }
+          ∙ inv ∙ sym (front_patch (all b l) before),
+    )
+
+-- ---- The command
+
+module _ {book l p area : List ℕ} (serves : Serves book l p area) {right : Bool}
+    (test : right ≡ length_right Discover (length p)) where
+  by_length : {b : Bool} → right ≡ b
+      → obey Discover (book_of book) (ends_of book l) p
+      ≡ stays (ends_of book l) (if b then accept (all book l) else rejects Discover 0 0x11)
+  unfolding obey discover
+  by_length is =
+      ap (λ (t : Bool). stays (ends_of book l) (if t then accept (all book l) else rejects Discover 0 0x11)) (sym test ∙ is)
+
+  pub shows_entries : {said : Said} {area' : List ℕ} → right ≡ true → said ≡ said_of (accept (all book l))
+      → area' ≡ front (all book l) area
+      → Obeys (obey Discover) book l p area said l area'
+  unfolding payload_of
+  shows_entries is s w = obeys_stay (obey Discover) serves (accept (all book l)) (by_length is) s w
+
+  pub shows_too_long : {said : Said} {area' : List ℕ} → right ≡ false → said ≡ said_of (reject (0x11 ∷ []))
+      → area' ≡ front (0x11 ∷ []) area
+      → Obeys (obey Discover) book l p area said l area'
+  unfolding rejects payload_of
+  shows_too_long is s w = obeys_stay (obey Discover) serves (rejects Discover 0 0x11) (by_length is) s w

@@ -1,11 +1,5 @@
 -- What is shown at the endpoint that was met: the list of its entry, or its configuration, which a reply has room for.
-use Prim.Native.Nat.{ℕ, ◌+◌, ◌≤◌}
-use mathlib.Core.Path.{◌≡◌, refl, sym, ap, ◌∙◌}
-use mathlib.Core.List.{List, [], ◌∷◌}
-use mathlib.Core.Bool.{true}
-use native.Mathlib.Omega.{arith}
-use lib.ListN.{length, take, drop}
-use lib.Seq.{take-take}
+use Rattle.std.proofs.Common.{◌≡◌, ℕ, ◌+◌, ◌≤◌, true, List, [], ◌∷◌, length, take, drop, sym, refl, ap, ◌∙◌, arith, take-take}
 use Rattle.rules.specs.Octets.{front}
 use Rattle.rules.specs.Elements.{items}
 use Rattle.rules.specs.Book.{media_type, list_right, shown_by_02, shown_by_0C}
@@ -29,7 +23,6 @@ use Rattle.commands_reply.specs.Obeys.{ends_of, Obeys}
 use Rattle.commands_checks.specs.Named.{Named}
 use Rattle.commands_checks.proofs.Meeting.{entry_in, stands, config_short}
 use Rattle.commands_checks.proofs.Acting.{did_say}
-use Rattle.commands_show.specs.Says.{Says}
 
 module _ {signal : Signal} {book records p reply : List ℕ} {at : Place} (call : Named signal book records p reply at) where
   -- the list lies in the book, and it fits
@@ -87,34 +80,34 @@ module _ {book records p reply : List ℕ} {at : Place} where
           ∙ ap (λ (k : ℕ). take k listed) size_told
           ∙ sym (front_shown _ listed right)
 
-      pub shows_some : {reply' : List ℕ} {said : Said} → Says (accept q) said reply reply'
+      pub shows_some : {reply' : List ℕ} {said : Said} → said ≡ said_of (accept q) → reply' ≡ front q reply
           → Obeys (obey GetCapabilities) book records p reply said records reply'
-      unfolding obey offers_at
-      shows_some h =
+      unfolding obey offers_at payload_of
+      shows_some s w =
           did_say call (offers_at shown_by_02 (ends_of book records)) refl (accept q)
-          (ap (λ (l : List ℕ). stays (ends_of book records) (accept l)) (sym same_shown)) h.told h.written
+          (ap (λ (l : List ℕ). stays (ends_of book records) (accept l)) (sym same_shown)) s w
 
   pub shows_all : Named GetAllCapabilities book records p reply at → {q reply' : List ℕ} {said : Said}
-      → q ≡ part at.from at.size book → Says (accept q) said reply reply'
+      → q ≡ part at.from at.size book → said ≡ said_of (accept q) → reply' ≡ front q reply
       → Obeys (obey GetAllCapabilities) book records p reply said records reply'
-  unfolding obey offers_at shown_by_0C part
-  shows_all call {q} e h =
+  unfolding obey offers_at shown_by_0C part payload_of
+  shows_all call {q} e s w =
       did_say call (offers_at shown_by_0C (ends_of book records)) refl (accept q)
-      (ap (λ (l : List ℕ). stays (ends_of book records) (accept l)) (sym e)) h.told h.written
+      (ap (λ (l : List ℕ). stays (ends_of book records) (accept l)) (sym e)) s w
 
   pub shows_config : Named GetConfiguration book records p reply at → {q reply' : List ℕ} {said : Said}
-      → q ≡ config_at at.index records → Says (accept q) said reply reply'
+      → q ≡ config_at at.index records → said ≡ said_of (accept q) → reply' ≡ front q reply
       → Obeys (obey GetConfiguration) book records p reply said records reply'
-  unfolding obey configuration_at
-  shows_config call {q} e h =
+  unfolding obey configuration_at payload_of
+  shows_config call {q} e s w =
       did_say call (configuration_at (ends_of book records)) refl (accept q)
       (ap (λ (x : Endpoint). stays (ends_of book records) (accept x.config)) (stands call).shows
       ∙ ap (λ (l : List ℕ). stays (ends_of book records) (accept l)) (sym e))
-      h.told h.written
+      s w
 
   pub shows_none : Named SecurityControl book records p reply at → {reply' : List ℕ} {said : Said}
-      → (said ≡ said_of (reject (0x19 ∷ []))) × (reply' ≡ front (0x19 ∷ []) reply)
+      → said ≡ said_of (reject (0x19 ∷ [])) → reply' ≡ front (0x19 ∷ []) reply
       → Obeys (obey SecurityControl) book records p reply said records reply'
   unfolding obey security_at rejects payload_of
-  shows_none call h =
-      did_say call (security_at (ends_of book records)) refl (rejects SecurityControl 0 0x19) refl h.0 h.1
+  shows_none call s w =
+      did_say call (security_at (ends_of book records)) refl (rejects SecurityControl 0 0x19) refl s w

@@ -1,10 +1,6 @@
 -- By its channel an endpoint that leaves keeps its configuration or has none any more: what is written is what storing the
 -- endpoints with that one gone writes.
-use Prim.Native.Nat.{ℕ, ◌<◌}
-use mathlib.Core.Path.{◌≡◌, sym, ap, ◌∙◌}
-use mathlib.Core.List.{List}
-use mathlib.Core.Bool.{Bool, true, false}
-use Rattle.std.specs.Prelude.{if◌then◌else◌}
+use Rattle.std.proofs.Common.{◌≡◌, ℕ, ◌<◌, Bool, true, false, List, if◌then◌else◌, sym, ap, ◌∙◌}
 use Rattle.rules.specs.Endpoints.{Endpoint, is_up, idle_head, idle, end_at, in_state, moved_by, forgotten, leaving}
 use Rattle.rules.specs.Saved.{head_in, ends_in, record_at}
 use Rattle.rules.specs.declared.State.{State}

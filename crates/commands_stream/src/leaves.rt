@@ -1,4 +1,5 @@
-// Close and Abort: with a channel the endpoint is closing or aborting from then on, without one it is idle.
+// Close and Abort: with a channel the endpoint is closing or aborting from then on, without one it is idle. The two signals leave
+// alike, for a state each.
 ghost use Rattle.std.specs.Prelude.{◌≡◌, [], ◌+◌, ◌*◌, ◌≤◌, length};
 ghost use Rattle.rules.specs.Saved.{record_room};
 ghost use Rattle.rules.specs.Commands.{accept, obey};
@@ -8,7 +9,7 @@ ghost use Rattle.commands_reply.specs.Obeys.{Obeys};
 ghost use Rattle.commands_checks.specs.Named.{Named};
 ghost use Rattle.commands_stream.specs.Left.{left_at};
 
-use book::places::Place;
+use book::places::{Place, RightBook};
 use commands_reply::Said;
 use rules::State;
 use saved::records::{get, set, set_head};
@@ -22,30 +23,42 @@ fn leave(records: &mut [u8], index: usize, to: State) -> Said
     ensures records { records.new ≡ left_at to index records.old }
 {
     let h = get(records, index);
-    let channel = h.channel;
-    if is_up(channel) {
+    if is_up(h.channel) {
         set_head(records, index, in_state(h, to));
-        return commands_reply::accepted();
+    } else {
+        set(records, index, idle(h.seid), 0);
     }
-    let seid = h.seid;
-    set(records, index, idle(seid), 0);
-    commands_reply::accepted()
+    Said::Accept { length: 0 }
 }
 
 // 08 Close.
-pub fn close(book: &[u8], records: &mut [u8], payload: &[u8], reply: &mut [u8], at: Place) -> Said
-    requires { Named Close book.now records.old payload.now reply.old at }
-    ensures { Obeys (obey Close) book.now records.old payload.now reply.old
-        result records.new reply.new }
+#[tactic(auto, using(commands_checks::proofs::Meeting::record_there))]
+pub fn close(
+    book: RightBook<'_>,
+    records: &mut [u8],
+    payload: &[u8],
+    reply: &mut [u8],
+    at: Place,
+) -> Said
+    requires { Named Close book.octets.now records.old payload.now reply.old at }
+    ensures { Obeys (obey Close) book.entry.octets.now records.old payload.now
+        reply.old result records.new reply.new }
 {
     leave(records, at.index, State::Closing)
 }
 
 // 0A Abort.
-pub fn abort(book: &[u8], records: &mut [u8], payload: &[u8], reply: &mut [u8], at: Place) -> Said
-    requires { Named Abort book.now records.old payload.now reply.old at }
-    ensures { Obeys (obey Abort) book.now records.old payload.now reply.old
-        result records.new reply.new }
+#[tactic(auto, using(commands_checks::proofs::Meeting::record_there))]
+pub fn abort(
+    book: RightBook<'_>,
+    records: &mut [u8],
+    payload: &[u8],
+    reply: &mut [u8],
+    at: Place,
+) -> Said
+    requires { Named Abort book.octets.now records.old payload.now reply.old at }
+    ensures { Obeys (obey Abort) book.entry.octets.now records.old payload.now
+        reply.old result records.new reply.new }
 {
     leave(records, at.index, State::Aborting)
 }

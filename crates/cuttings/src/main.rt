@@ -4,57 +4,56 @@
 
 ghost use Rattle.std.specs.Prelude.{◌≡◌, ◌+◌, ◌*◌, ◌^◌, ◌≤◌, ◌<◌, min, length};
 
-use rules::Piece;
-use std::io;
+use packets_cut::PacketSize;
+use rules::refusals::Refusal;
+use rules::{Header, Piece};
+use std::ops::AddAssign;
+use std::{array, io};
 
-const LABEL: u8 = 5;
+const HEADER: Header = Header {
+    label: 5,
+    mtype: 2,
+    signal: 12,
+};
 
-const MTYPE: u8 = 2;
-
-const SIGNAL: u8 = 12;
-
-// Room for the longest payload, and for any packet with some octets behind it.
-type Payload = [u8; 512];
-
+// Room for any packet with some octets behind it, and what stands in it before: so nothing of an earlier packet can pass for a
+// part of the next.
 type Area = [u8; 700];
 
+const WIPED: u8 = 255;
+
 // How many packets there are by the second way, and how many packets or counts differ.
-#[derive(Drop)]
+#[derive(Clone, Copy, Default)]
 struct Tally {
     packets: u64,
     different: u64,
 }
 
-fn plus(a: Tally, b: Tally) -> Tally
-    requires { (a.packets + b.packets < 2 ^ 64) × (a.different + b.different < 2 ^ 64) }
-    ensures { (result.packets ≡ a.packets + b.packets) × (result.different ≡ a.different + b.different) }
-{
-    Tally {
-        packets: a.packets + b.packets,
-        different: a.different + b.different,
+impl AddAssign for Tally {
+    ghost can_add_assign = { λ a b. (a.packets + b.packets < 2 ^ 64) × (a.different + b.different < 2 ^ 64) };
+
+    ghost add_assign_gives = { λ a b r. (r.packets ≡ a.packets + b.packets) × (r.different ≡ a.different + b.different) };
+
+    fn add_assign(&mut self, other: Tally) {
+        self.packets += other.packets;
+        self.different += other.different;
     }
 }
 
 // How many octets packet number `index` takes off where `left` octets of the payload are left.
-fn taken(size: usize, index: usize, left: usize) -> usize
-    requires { 48 ≤ size }
+fn taken(size: PacketSize, index: usize, left: usize) -> usize
     ensures { (result ≤ left) × (min left 45 ≤ result) }
 {
-    if index == 0 {
-        if left <= size - 2 {
-            return left;
-        }
-        return size - 3;
+    match index {
+        0 if left <= size.octets - 2 => left,
+        0 => size.octets - 3,
+        _ => left.min(size.octets - 1),
     }
-    if left < size {
-        return left;
-    }
-    size - 1
 }
 
 // How many packets are taken off a payload of `whole` octets until nothing is left.
-fn counted(size: usize, whole: usize) -> usize
-    requires { (48 ≤ size) × (whole ≤ 512) }
+fn counted(size: PacketSize, whole: usize) -> usize
+    requires { whole ≤ 512 }
     ensures { result ≤ 255 }
 {
     let mut left = whole - taken(size, 0, whole);
@@ -67,98 +66,70 @@ fn counted(size: usize, whole: usize) -> usize
 }
 
 // Writes the header of packet number `index` of `count`, and answers its length.
-fn header(index: usize, count: usize, last: bool, expected: &mut Area) -> usize
+fn put_header(index: usize, count: usize, last: bool, expected: &mut Area) -> usize
     requires { count ≤ 255 }
     ensures { result ≤ 3 }
 {
-    let single = LABEL * 16 + MTYPE;
-    if index != 0 {
-        expected[0] = single + 8;
-        if last {
-            expected[0] = single + 12;
+    let single = HEADER.label * 16 + HEADER.mtype;
+    match (index, last) {
+        (0, true) => {
+            expected[..2].copy_from_slice(&[single, HEADER.signal]);
+            2
         }
-        return 1;
-    }
-    if last {
-        expected[0] = single;
-        expected[1] = SIGNAL;
-        return 2;
-    }
-    expected[0] = single + 4;
-    expected[1] = count as u8;
-    expected[2] = SIGNAL;
-    3
-}
-
-// Copies `part` octets of the payload, from `from` on, behind a header of `head` octets. It does without `octets::put`, by which
-// the cutter writes, so that a fault there would show.
-fn fill(payload: &[u8], from: usize, part: usize, head: usize, expected: &mut Area)
-    requires { (from + part ≤ length payload.now) × (head + part ≤ 700) }
-{
-    for i in 0..part {
-        expected[head + i] = payload[from + i];
+        (0, false) => {
+            expected[..3].copy_from_slice(&[single + 4, count as u8, HEADER.signal]);
+            3
+        }
+        (_, true) => {
+            expected[0] = single + 12;
+            1
+        }
+        (_, false) => {
+            expected[0] = single + 8;
+            1
+        }
     }
 }
 
-// Wipes an area, so that nothing of an earlier packet can pass for a part of the next.
-fn wipe(area: &mut Area) {
-    for i in 0..700 {
-        area[i] = 255;
-    }
-}
-
-// Cuts packet number `index`: 0 if the cutter tells the same and leaves its area with the same octets, up to the end; else 1.
+// Cuts packet number `index`: whether the cutter tells something else than `told`, or leaves its area with other octets than
+// `expected`, up to the end.
 fn differs(
-    size: usize,
+    size: PacketSize,
     payload: &[u8],
     index: usize,
     told: Piece,
     area: &mut Area,
     expected: &Area,
-) -> u64
-    ensures { result ≤ 1 }
-{
-    wipe(area);
-    let piece = packets_cut::cut(size, LABEL, MTYPE, SIGNAL, payload, index, area);
-    if piece.number != told.number {
-        return 1;
-    }
-    if piece.length != told.length {
-        return 1;
-    }
-    if octets::same(area, expected) {
-        return 0;
-    }
-    1
+) -> bool {
+    area.fill(WIPED);
+    let piece = packets_cut::cut(size.octets, HEADER, payload, index, area);
+    piece != told || *area != *expected
 }
 
-// One message: the count of its packets, the number behind the last, which is refused, and every packet.
-fn message(size: usize, payload: &[u8], area: &mut Area, expected: &mut Area) -> Tally
-    requires { (48 ≤ size) × (length payload.now ≤ 512) }
+// One message: the count of its packets, the number behind the last, which is refused, and every packet. What is expected is
+// written without `octets::put`, by which the cutter writes, so that a fault there would show.
+fn message(size: PacketSize, payload: &[u8], area: &mut Area, expected: &mut Area) -> Tally
+    requires { length payload.now ≤ 512 }
     ensures { (result.packets ≤ 300) × (result.different ≤ 300) }
 {
     let count = counted(size, payload.len());
-    wipe(expected);
+    expected.fill(WIPED);
     let refused = Piece {
-        number: 11,
+        number: u8::from(Refusal::Message),
         length: 0,
     };
-    let mut different = differs(size, payload, count, refused, area, expected);
-    if packets_cut::packets(size, payload.len()) != count {
-        different += 1;
-    }
-    let mut left = payload.len();
-    let mut index = 0;
-    while index < count {
-        let part = taken(size, index, left);
-        wipe(expected);
-        let head = header(index, count, part == left, expected);
-        fill(payload, payload.len() - left, part, head, expected);
-        let length = head + part;
+    let mut different = u64::from(differs(size, payload, count, refused, area, expected));
+    different += u64::from(packets_cut::packets(size.octets, payload.len()) != count);
+    let mut rest = payload;
+    for index in 0..count {
+        let (part, behind) = rest.split_at(taken(size, index, rest.len()));
+        expected.fill(WIPED);
+        let head = put_header(index, count, behind.is_empty(), expected);
+        let length = head + part.len();
+        expected[head..length].copy_from_slice(part);
         let cut = Piece { number: 0, length };
-        different += differs(size, payload, index, cut, area, expected);
-        left -= part;
-        index += 1;
+        different += u64::from(differs(size, payload, index, cut, area, expected));
+        rest = behind;
     }
     Tally {
         packets: count as u64,
@@ -167,52 +138,32 @@ fn message(size: usize, payload: &[u8], area: &mut Area, expected: &mut Area) ->
 }
 
 // The messages of every length, at one packet size.
-fn lengths(size: usize, payload: &Payload, area: &mut Area, expected: &mut Area) -> Tally
-    requires { 48 ≤ size }
+fn lengths(size: PacketSize, payload: &[u8; 512], area: &mut Area, expected: &mut Area) -> Tally
     ensures { (result.packets ≤ 300 * 513) × (result.different ≤ 300 * 513) }
 {
-    let mut tally = Tally {
-        packets: 0,
-        different: 0,
-    };
+    let mut tally = Tally::default();
     for length in 0..=512 {
-        let one = message(size, octets::part(payload, 0, length), area, expected);
-        tally = plus(tally, one);
+        tally += message(size, &payload[..length], area, expected);
     }
     tally
 }
 
 // The same at every packet size.
-fn sizes(payload: &Payload, area: &mut Area, expected: &mut Area) -> Tally {
-    let mut tally = Tally {
-        packets: 0,
-        different: 0,
-    };
-    for size in 48..=672 {
-        let one = lengths(size, payload, area, expected);
-        tally = plus(tally, one);
+#[tactic(auto, unfolding(rules::specs::Packets::size_right, rules::specs::Octets::between))]
+fn sizes(payload: &[u8; 512], area: &mut Area, expected: &mut Area) -> Tally {
+    let mut tally = Tally::default();
+    for octets in 48..=672 {
+        let size = PacketSize::new(octets).unwrap();
+        tally += lengths(size, payload, area, expected);
     }
     tally
 }
 
-fn pattern(payload: &mut Payload) {
-    for i in 0..512 {
-        payload[i] = ((i * 7 + 3) % 256) as u8;
-    }
-}
-
-fn line(rt: &impl Print, word: &[u8], number: u64) -> io::Result<()> {
-    rt.write_all(word)?;
-    rt.print(number)?;
-    rt.write_all(b"\n")
-}
-
 fn main(rt: HostRuntime) -> io::Result<()> {
-    let mut payload = [0u8; 512];
-    pattern(&mut payload);
-    let mut area = [0u8; 700];
-    let mut expected = [0u8; 700];
+    let payload = array::from_fn(|i| ((i * 7 + 3) % 256) as u8);
+    let mut area = [WIPED; 700];
+    let mut expected = [WIPED; 700];
     let tally = sizes(&payload, &mut area, &mut expected);
-    line(&rt, b"packets ", tally.packets)?;
-    line(&rt, b"different ", tally.different)
+    println!(rt; "packets {}", tally.packets)?;
+    println!(rt; "different {}", tally.different)
 }

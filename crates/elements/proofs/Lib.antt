@@ -1,2 +1,3 @@
+pub mod Known
 pub mod Passing
 pub mod Judging

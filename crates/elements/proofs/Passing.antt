@@ -1,6 +1,6 @@
 -- Marks: what is marked of a category once an element was passed; which categories marks show as seen; that they tell which
 -- categories a list has; and the marks from a place on, by what stands there. The lists go by their octets, the rest by cases.
-use Prim.Native.Nat.{ℕ, zero, suc, ◌+◌, ◌<◌}
+use Prim.Native.Nat.{ℕ, zero, suc, ◌+◌}
 use mathlib.Core.Path.{◌≡◌, refl, sym, ap, ap₂, ◌∙◌}
 use mathlib.Core.List.{List, [], ◌∷◌, ◌++◌, append-nil}
 use mathlib.Core.Bool.{Bool, true, false, not, ◌&&◌, ◌||◌}
@@ -13,35 +13,17 @@ use borrow.Author.Tests.{eq-eqb, ne_eqb, eqb-true, eqb-false}
 use Rattle.rules.specs.Octets.{member, some_of}
 use Rattle.std.specs.Prelude.{if◌then◌else◌}
 use Rattle.rules.specs.Elements.{Category, category_of, transport, reporting, recovery, protection, compression, multiplexing}
-use Rattle.rules.specs.Elements.{codec, delaying, strange, is_strange, items_past, items, headed, is_of, has}
+use Rattle.rules.specs.Elements.{codec, delaying, strange, is_strange, items_past, headed, is_of, has}
 use Rattle.rules.proofs.Tests.{Told?, passed, failed, told, clash}
 use Rattle.elements_reader.specs.Standing.{element_of, element_at}
 use Rattle.elements_reader.specs.declared.Element.{Element}
 use Rattle.elements_reader.specs.declared.Element.TheVariants.{End, Short, Whole}
-use Rattle.elements_reader.proofs.Stands.{behind}
+use Rattle.elements_reader.proofs.Stands.{behind, stands_whole}
 use Rattle.elements.specs.Marks.{mark_of, marked, is_whole, marks_past, marks_from, seen_as, seen_in}
 use Rattle.elements.specs.declared.marks.Marks.{Marks}
 use Rattle.elements_offers.proofs.Categories.{number_of, known_number}
 
 -- ---- An element passed
-
--- one arm of the code's `match`
-pub pass_key : (c k first : ℕ) (m : Marks) → c ≡ k → marked k first m ≡ marked c first m
-pass_key c k first m e = ap (λ n. marked n first m) (sym e)
-
-pub pass_other : (c first : ℕ) (m : Marks) → (0 < c → 8 < c) → m ≡ marked c first m
-unfolding marked
-pass_other c first m h =
-    rw (
-      ne_eqb c 1 (λ e. omega arith),
-      ne_eqb c 2 (λ e. omega arith),
-      ne_eqb c 3 (λ e. omega arith),
-      ne_eqb c 4 (λ e. omega arith),
-      ne_eqb c 5 (λ e. omega arith),
-      ne_eqb c 6 (λ e. omega arith),
-      ne_eqb c 7 (λ e. omega arith),
-      ne_eqb c 8 (λ e. omega arith),
-    )
 
 mark_by : (k : Category) (c first : ℕ) (m : Marks) → is_strange k ≡ false
     → mark_of k (marked c first m) ≡ if eqb c (number_of k) then first else mark_of k m
@@ -125,6 +107,11 @@ pub seen_marked : (c : ℕ) (m : Marks) → is_strange (category_of c) ≡ false
 unfolding is_marked
 seen_marked c m e = ap (λ n. member n (seen_in m)) (sym (known_number c e)) ∙ seen_by (category_of c) m e
 
+pub seen_mark : (c : ℕ) (m : Marks) → is_strange (category_of c) ≡ false
+    → member c (seen_in m) ≡ not (eqb (mark_of (category_of c) m) 0)
+unfolding is_marked
+seen_mark c m e = seen_marked c m e
+
 -- ---- What a list has, its marks tell
 
 has_past : (c : ℕ) → is_strange (category_of c) ≡ false → (l : List ℕ) (k at : ℕ) (m : Marks)
@@ -150,12 +137,6 @@ has_past c e (x ∷ n ∷ xs) zero at m = go (told (leb n (length xs))) (has_pas
         ∙ ap (λ b. has c (items_past xs n) || b) (sym (marked_passed c x (at + 2) m e (omega arith)))
         ∙ step)
     go (failed t) step = rw t
-
-pub has_marked : (c : ℕ) → is_strange (category_of c) ≡ false → (l : List ℕ) (at : ℕ) (m : Marks) → is_marked c m ≡ false
-    → has c (items (drop at l)) ≡ is_marked c (marks_from l at m)
-unfolding marks_from
-has_marked c e l at m new =
-    sym (ap (λ b. has c (items (drop at l)) || b) new ∙ or_false (has c (items (drop at l)))) ∙ has_past c e (drop at l) 0 at m
 
 -- ---- The marks from a place on
 
@@ -187,3 +168,20 @@ marks_by_lem l at m = go (drop at l) refl
             ∙ ap₂ (λ (d : List ℕ) (k : ℕ). marks_past d 0 k (marked c (at + 2) m))
             (ap (drop n) (behind l at e) ∙ drop-drop n (at + 2) l) (omega arith))
         fits (failed t) = rw t
+
+-- where no whole element stands, there are no more
+pub marks_end : (l : List ℕ) (at : ℕ) (m : Marks) (h : Element) → h ≡ element_at l at
+    → ((c n first : ℕ) → h ≡ Whole c n first → ⊥) → m ≡ marks_from l at m
+unfolding marks_by
+marks_end l at m End e none = ap (λ h. marks_by h l m) e ∙ sym (marks_by_lem l at m)
+marks_end l at m (Short c) e none = ap (λ h. marks_by h l m) e ∙ sym (marks_by_lem l at m)
+marks_end l at m (Whole c n first) e none = absurd (none c n first refl)
+
+-- where one stands, it is marked
+pub marks_on : (l : List ℕ) (at : ℕ) (m : Marks) (c n first : ℕ) → Whole c n first ≡ element_at l at
+    → marks_from l (first + n) (marked c first m) ≡ marks_from l at m
+unfolding marks_by
+marks_on l at m c n first e = ap (λ h. marks_by h l m) e ∙ sym (marks_by_lem l at m)
+
+-- what a walk that marks goes by, at each turn
+pub ruleset turns = (stands_whole, marks_end, marks_on)

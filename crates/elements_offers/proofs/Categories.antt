@@ -70,10 +70,6 @@ known_number c e = number_back c (known_low c e)
 pub apart : (c : ℕ) (k : Category) → is_strange k ≡ false → (c ≡ number_of k → ⊥) → category_of c ≡ k → ⊥
 apart c k known f e = f (sym (known_number c (ap is_strange e ∙ known)) ∙ ap number_of e)
 
-pub known_not_0 : (c : ℕ) → is_strange (category_of c) ≡ false → c ≡ 0 → ⊥
-unfolding is_strange category_of
-known_not_0 c e z = clash (sym (at_key is_strange z)) e
-
 -- a number that is none of those from 1 to 8
 pub other_strange : (c : ℕ) → (0 < c → 8 < c) → category_of c ≡ strange
 unfolding category_of

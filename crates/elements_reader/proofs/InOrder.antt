@@ -8,7 +8,7 @@ use mathlib.Core.List.{List, [], ◌∷◌}
 use mathlib.Core.Bool.{Bool, true, false, not, ◌&&◌, ◌||◌}
 use lib.ListN.{length, take, drop, get_or}
 use lib.Seq.{length-take-le}
-use lib.Dec.{leb, ltb, eqb, eqb-suc-zero}
+use lib.Dec.{leb, ltb, eqb}
 use borrow.Author.Tests.{leb-true, leb-false, ltb-true, eqb-true, eqb-false, ne_eqb}
 use Rattle.rules.specs.Octets.{member, some_of, each_of}
 use Rattle.std.specs.Prelude.{if◌then◌else◌}
@@ -316,26 +316,3 @@ module _ (caps : List ℕ) (first : TransportFirst caps) where
   pub offered_behind : (c : ℕ) (v : List ℕ) → (c ≡ 1 → ⊥) → offered (items caps) c v ≡ offered (items (drop 2 caps)) c v
   unfolding offered some_of offers_in
   offered_behind c v f = rw (first, ne_eqb c 1 f)
-
--- ---- Lengths of values, by category: none of 1, 2 and 8, and two octets at least of 4 and 7
-
-pub empty_right : (c n : ℕ) → member c (1 ∷ 2 ∷ 8 ∷ []) ≡ true → eqb (length_code (category_of c) n) 0 ≡ eqb n 0
-unfolding length_code category_of
-empty_right c n =
-    let P : ℕ → Type 0 = λ d. eqb (length_code (category_of d) n) 0 ≡ eqb n 0 in
-    one_of c 1 (2 ∷ 8 ∷ []) P (chosen 0x22 (eqb n 0))
-    (one_of c 2 (8 ∷ []) P (chosen 0x17 (eqb n 0)) (one_of c 8 [] P (chosen 0x17 (eqb n 0)) (none_of c)))
-  where
-    chosen : (code : ℕ) (b : Bool) → eqb (if b then 0 else suc code) 0 ≡ b
-    chosen code true = refl
-    chosen code false = eqb-suc-zero code
-
-pub two_right : (c n : ℕ) → member c (4 ∷ 7 ∷ []) ≡ true → eqb (length_code (category_of c) n) 0 ≡ not (ltb n 2)
-unfolding length_code category_of
-two_right c n =
-    let P : ℕ → Type 0 = λ d. eqb (length_code (category_of d) n) 0 ≡ not (ltb n 2) in
-    one_of c 4 (7 ∷ []) P (chosen 0x26 (ltb n 2)) (one_of c 7 [] P (chosen 0x17 (ltb n 2)) (none_of c))
-  where
-    chosen : (code : ℕ) (b : Bool) → eqb (if b then suc code else 0) 0 ≡ not b
-    chosen code true = eqb-suc-zero code
-    chosen code false = refl

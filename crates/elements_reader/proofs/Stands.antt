@@ -7,10 +7,8 @@ use native.Mathlib.Nat.{add-zero}
 use native.Mathlib.Numerals.{add-one, add-two}
 use native.Mathlib.Omega.{arith}
 use lib.ListN.{length, take, drop, get_or, length-drop, drop_of_length-le}
-use lib.Seq.{drop-cons, drop-drop, get_or-drop, get_or-take, length-take-le}
+use lib.Seq.{drop-cons, drop-drop, get_or-drop, length-take-le}
 use lib.Dec.{leb}
-use types.Run.{OneOf, miss}
-use denote.Enum.Declared.{tag_of}
 use borrow.Author.Tests.{le-leb, lt-leb, leb-true, leb-false}
 use Rattle.rules.specs.Elements.{whole, items}
 use Rattle.rules.proofs.Tests.{Told?, passed, failed, told}
@@ -18,7 +16,6 @@ use Rattle.rules.proofs.Lists.{items_none, items_lone, items_short, items_whole}
 use Rattle.elements_reader.specs.Standing.{element_of, element_at, items_by}
 use Rattle.elements_reader.specs.declared.Element.{Element}
 use Rattle.elements_reader.specs.declared.Element.TheVariants.{End, Short, Whole}
-use Rattle.elements_reader.specs.contracts.Element.{the_type}
 
 -- ---- By tests on numbers
 
@@ -46,15 +43,6 @@ unfolding element_at element_of
 head_whole l at h k s =
     rw (two_there l at (omega arith), le-leb (get_or l (at + 1) 0) (length (drop (at + 2) l)) (rw length-drop (omega arith)))
 
--- ---- By the variant
-
--- nothing, or an element cut short: what is known where a `let` of a whole element goes its other way
-abbrev pub NoWhole : Element → Type 0
-NoWhole h = OneOf (0 ∷ 1 ∷ []) (tag_of the_type h)
-
-pub not_whole : {A : Type 0} → OneOf (0 ∷ 1 ∷ []) 2 → A
-not_whole k = absurd (miss (0 ∷ 1 ∷ []) 2 tt k)
-
 -- ---- What stands there is there
 
 abbrev pub Stands : List ℕ → ℕ → Element → Type 0
@@ -79,13 +67,9 @@ stands l at = go (drop at l) (length-drop at l) (get_or-drop at l 0 0) (get_or-d
 pub stands_whole : (l : List ℕ) (at c n first : ℕ) → Whole c n first ≡ element_at l at → Stands l at (Whole c n first)
 stands_whole l at c n first e = subst (Stands l at) (sym e) (stands l at)
 
--- a value of n octets that is in the list, and its first octet
+-- a value of n octets that is in the list
 pub part_length : (l : List ℕ) (first n : ℕ) → first + n ≤ length l → length (take n (drop first l)) ≡ n
 part_length l first n h = length-take-le n (drop first l) (rw length-drop (omega arith))
-
-pub part_first : (l : List ℕ) (first n : ℕ) → 1 ≤ n → get_or (take n (drop first l)) 0 0 ≡ get_or l first 0
-part_first l first n h =
-    get_or-take n (drop first l) 0 0 (omega arith) ∙ get_or-drop first l 0 0 ∙ ap (λ i. get_or l i 0) (add-zero first)
 
 pub value_length : (l : List ℕ) (at c n first : ℕ) → Whole c n first ≡ element_at l at → length (take n (drop first l)) ≡ n
 value_length l at c n first e = part_length l first n (stands_whole l at c n first e).3

@@ -1,7 +1,8 @@
 -- The order in which the elements of a right list stand, as the walks of the code go by it: what may follow an element, what is
 -- asked of each, and where the codec ends. That a walk by this order tells what the rules tell is proved in InOrder,
 -- StoredInOrder and ShownInOrder.
-use Rattle.std.specs.Prelude.{ℕ, ◌+◌, ◌%◌, ◌≡◌, List, [], ◌∷◌, Bool, false, not, ◌&&◌, ◌||◌, length, drop, get_or, leb, eqb, if◌then◌else◌}
+use Rattle.std.specs.Prelude.{ℕ, ◌+◌, ◌%◌, ◌≡◌, List, [], ◌∷◌, Bool, false, not, ◌&&◌, ◌||◌, length, drop, get_or, leb, eqb}
+use Rattle.std.specs.Prelude.{if◌then◌else◌}
 use Rattle.rules.specs.Octets.{member}
 use Rattle.rules.specs.Elements.{Item, whole, short, items, element, category_of, length_code, start_right, offered}
 

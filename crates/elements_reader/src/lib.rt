@@ -1,20 +1,28 @@
 // Reading a list of elements, of a book, a command or a stored configuration: a reader keeps the list and its place in it, and
-// tells what stands there. Every walk over a list gets to its elements by `element_at`. There are two ways in, both thin: `look`
-// takes a reader, and `element_at` makes one at a place that the walk has moved on to. The work is `standing`'s.
+// tells what stands there (`look`). Every walk over a list gets to its elements by `element_at`, which makes a reader at a place
+// that the walk has moved on to.
 #![tactic(auto)]
 
 ghost use Rattle.std.specs.Prelude.{◌≡◌};
+ghost use Rattle.elements_reader.specs.Orders.{TransportFirst};
 ghost use Rattle.elements_reader.specs.Standing.{element_at};
 
-#[derive(Drop)]
+// What an entry offers: a list that begins with the media transport, as every list of a right book does.
+#[derive(Clone, Copy)]
+pub struct Offer<'a> {
+    pub list: &'a [u8],
+    ghost first: { TransportFirst list.now },
+}
+
+#[derive(Clone, Copy)]
 pub struct Reader<'a> {
     pub list: &'a [u8],
     pub at: usize,
 }
 
 // What stands at a place of a list: nothing more, an element that is cut short, or a whole one with the length of its value and
-// the place where the value begins.
-#[derive(Drop)]
+// the place where the value begins. These are three answers, as document 01 has them, and no Option or Result has its shape.
+#[derive(Clone, Copy)]
 pub enum Element {
     End,
     Short {
@@ -27,40 +35,34 @@ pub enum Element {
     },
 }
 
-// What stands at a place of a list.
-fn standing(list: &[u8], at: usize) -> Element
-    ensures { result ≡ element_at list.now at }
-{
-    if list.len() <= at {
-        return Element::End;
-    }
-    let category = list[at];
-    let left = list.len() - at;
-    if left < 2 {
-        return Element::Short { category };
-    }
-    let length = list[at + 1] as usize;
-    if length <= left - 2 {
-        Element::Whole {
-            category,
-            length,
-            first: at + 2,
+impl Reader<'_> {
+    // What stands at the reader's place.
+    pub fn look(self) -> Element
+        ensures { result ≡ element_at self.entry.list.now self.entry.at }
+    {
+        let Reader { list, at } = self;
+        let Some(&category) = list.get(at) else {
+            return Element::End;
+        };
+        let Some(&length) = list.get(at + 1) else {
+            return Element::Short { category };
+        };
+        let length = usize::from(length);
+        if length <= list.len() - at - 2 {
+            Element::Whole {
+                category,
+                length,
+                first: at + 2,
+            }
+        } else {
+            Element::Short { category }
         }
-    } else {
-        Element::Short { category }
     }
-}
-
-// What stands at the reader's place.
-pub fn look<'a>(reader: Reader<'a>) -> Element
-    ensures { result ≡ element_at reader.entry.list.now reader.entry.at }
-{
-    standing(reader.list, reader.at)
 }
 
 // A reader of the list is made at the place, and looks.
-pub fn element_at<'a>(list: &'a [u8], at: usize) -> Element
+pub fn element_at(list: &[u8], at: usize) -> Element
     ensures { result ≡ element_at list.now at }
 {
-    look(Reader { list, at })
+    Reader { list, at }.look()
 }

@@ -1,2 +1,4 @@
+pub mod Fits
 pub mod Writes
 pub mod Stores
+pub mod Ends

@@ -12,20 +12,21 @@ use lib.Seq.{drop-drop, get_or-drop}
 use lib.Dec.{leb, eqb}
 use borrow.Author.Tests.{leb-true, eqb-true, eqb-false, eq-eqb, ne_eqb}
 use Rattle.rules.specs.Octets.{member, some_of, same_octets}
-use Rattle.std.specs.Prelude.{if◌then◌else◌}
+use Rattle.std.specs.Prelude.{Ok, if◌then◌else◌}
 use Rattle.rules.specs.Elements.{Item, whole, short, headed, items_past, items, category_of, is_strange, fixed, item_code, is_of}
 use Rattle.rules.specs.Elements.{has, item_category, blamed, fault_past, fault_in, offerable, pick, picks, stored, restored}
-use Rattle.rules.specs.Elements.{could_store}
+use Rattle.rules.specs.Elements.{could_store, Category, transport, reporting, recovery, protection, compression}
+use Rattle.rules.specs.Elements.{multiplexing, codec, delaying, strange}
 use Rattle.rules.specs.declared.Rule.{Rule}
 use Rattle.rules.specs.declared.Rule.TheVariants.{Setting, Reconfiguring}
 use Rattle.rules.proofs.Tests.{Told?, passed, failed, told, clash, and_l, or_l, or_r}
 use Rattle.rules.proofs.Storable.{clean_head, clean_tail, Asks, setting_asks, reconfiguring_asks}
-use Rattle.elements.specs.Marks.{no_marks, marked, is_whole, marks_past, marks_from}
+use Rattle.elements.specs.Marks.{no_marks, mark_of, marked, is_whole, marks_past, marks_from}
 use Rattle.elements.specs.Walks.{check_of}
 use Rattle.elements.specs.declared.marks.Marks.{Marks}
-use Rattle.elements.specs.declared.walks.Walked.TheVariants.{Clean}
+use Rattle.elements.proofs.Passing.{mark_passed}
 use Rattle.elements.proofs.Judging.{told_marks, check_clean}
-use Rattle.elements_stored.specs.Stores.{marked_pick, either_pick, marked_store, PickFits, MarksFit}
+use Rattle.elements_stored.specs.Stores.{marked_pick, either_pick, picked_all, marked_store, PickFits, MarksFit}
 
 -- ---- No category comes twice
 
@@ -123,16 +124,27 @@ none_picked c l = refl
 
 -- ---- The mark of a category
 
-record Marking (c : ℕ) (mark : Marks → ℕ) : Type 0 where
-  none : mark no_marks ≡ 0
-  passes : (d first : ℕ) (m : Marks) → mark (marked d first m) ≡ if eqb d c then first else mark m
+no_mark : (k : Category) → mark_of k no_marks ≡ 0
+unfolding mark_of no_marks
+no_mark transport = refl
+no_mark reporting = refl
+no_mark recovery = refl
+no_mark protection = refl
+no_mark compression = refl
+no_mark multiplexing = refl
+no_mark codec = refl
+no_mark delaying = refl
+no_mark strange = refl
 
-module _ (c : ℕ) (mark : Marks → ℕ) (law : Marking c mark) where
+module _ (c : ℕ) (known : is_strange (category_of c) ≡ false) where
+  abbrev mark : Marks → ℕ
+  mark m = mark_of (category_of c) m
+
   this_one : (d first : ℕ) (m : Marks) → eqb c d ≡ true → mark (marked d first m) ≡ first
-  this_one d first m e = law.passes d first m ∙ rw (eq-eqb d c (sym (eqb-true c d e)))
+  this_one d first m e = mark_passed c d first m known ∙ rw (eq-eqb d c (sym (eqb-true c d e)))
 
   other_one : (d first : ℕ) (m : Marks) → eqb c d ≡ false → mark (marked d first m) ≡ mark m
-  other_one d first m e = law.passes d first m ∙ rw (ne_eqb d c (λ p. eqb-false c d e (sym p)))
+  other_one d first m e = mark_passed c d first m known ∙ rw (ne_eqb d c (λ p. eqb-false c d e (sym p)))
 
   -- a mark fits its list
   fits_marked : (l : List ℕ) (at : ℕ) {n : ℕ} {xs : List ℕ} (x : ℕ) (m : Marks) → Two l at n xs → n ≤ length xs
@@ -215,11 +227,11 @@ module _ (c : ℕ) (mark : Marks → ℕ) (law : Marking c mark) where
 
   mark_fits : (l : List ℕ) (at : ℕ) → PickFits l (mark (marks_from l at no_marks))
   unfolding marks_from
-  mark_fits l at = fits_past l (drop at l) 0 at no_marks refl (rw law.none (λ (p : 0 < 0). absurd (omega arith)))
+  mark_fits l at = fits_past l (drop at l) 0 at no_marks refl (rw (no_mark (category_of c)) (λ (p : 0 < 0). absurd (omega arith)))
 
   none_marked : (l : List ℕ) (at : ℕ) → has c (items (drop at l)) ≡ false → mark (marks_from l at no_marks) ≡ 0
   unfolding marks_from
-  none_marked l at h = stays (drop at l) 0 at no_marks h ∙ law.none
+  none_marked l at h = stays (drop at l) 0 at no_marks h ∙ no_mark (category_of c)
 
   one_marked : (l : List ℕ) (at : ℕ) → Once (items (drop at l)) → has c (items (drop at l)) ≡ true
       → Picked l (mark (marks_from l at no_marks)) (items (drop at l))
@@ -248,36 +260,17 @@ module _ (c : ℕ) (mark : Marks → ℕ) (law : Marking c mark) where
       go (passed h) = (one_marked l at once h).1
       go (failed h) = ap (marked_pick c l) (none_marked l at h) ∙ none_picked c l ∙ sym (pick_none c (items (drop at l)) h)
 
-transport_mark : Marking 1 (λ m. m.transport)
-unfolding no_marks marked
-transport_mark = record { none = refl; passes = λ d first m. refl }
-
-reporting_mark : Marking 2 (λ m. m.reporting)
-unfolding no_marks marked
-reporting_mark = record { none = refl; passes = λ d first m. refl }
-
-protection_mark : Marking 4 (λ m. m.protection)
-unfolding no_marks marked
-protection_mark = record { none = refl; passes = λ d first m. refl }
-
-codec_mark : Marking 7 (λ m. m.codec)
-unfolding no_marks marked
-codec_mark = record { none = refl; passes = λ d first m. refl }
-
-delaying_mark : Marking 8 (λ m. m.delaying)
-unfolding no_marks marked
-delaying_mark = record { none = refl; passes = λ d first m. refl }
-
 -- ---- The marks of a list fit it
 
 pub marks_fit : (l : List ℕ) (at : ℕ) → MarksFit l (marks_from l at no_marks)
+unfolding category_of mark_of is_strange
 marks_fit l at =
     record {
-      transport = mark_fits 1 _ transport_mark l at;
-      reporting = mark_fits 2 _ reporting_mark l at;
-      protection = mark_fits 4 _ protection_mark l at;
-      codec = mark_fits 7 _ codec_mark l at;
-      delaying = mark_fits 8 _ delaying_mark l at;
+      transport = mark_fits 1 refl l at;
+      reporting = mark_fits 2 refl l at;
+      protection = mark_fits 4 refl l at;
+      codec = mark_fits 7 refl l at;
+      delaying = mark_fits 8 refl l at;
     }
 
 pub none_fit : (l : List ℕ) → MarksFit l no_marks
@@ -288,29 +281,31 @@ none_fit l =
 
 -- ---- What is stored by the marks
 
-store_picked : (new : List ℕ) (at : ℕ) (old : List ℕ) (k : Marks) (js : List Item) → Once (items (drop at new))
-    → marked_pick 1 old k.transport ≡ pick 1 js → marked_pick 2 old k.reporting ≡ pick 2 js
-    → marked_pick 4 old k.protection ≡ pick 4 js → marked_pick 7 old k.codec ≡ pick 7 js
-    → marked_pick 8 old k.delaying ≡ pick 8 js
-    → marked_store new (marks_from new at no_marks) old k ≡ stored (items (drop at new) ++ js)
-unfolding marked_store stored offerable picks
-store_picked new at old k js once e₁ e₂ e₄ e₇ e₈ =
-    let is = items (drop at new) ++ js in
-    ap₂ ◌++◌ (either_picked 1 _ transport_mark new at old k.transport js once e₁)
-    (ap₂ ◌++◌ (either_picked 2 _ reporting_mark new at old k.reporting js once e₂)
-    (ap₂ ◌++◌ (either_picked 4 _ protection_mark new at old k.protection js once e₄)
-    (ap₂ ◌++◌ (either_picked 7 _ codec_mark new at old k.codec js once e₇)
-    (either_picked 8 _ delaying_mark new at old k.delaying js once e₈ ∙ sym (append-nil (pick 8 is))))))
+abbrev Known : List ℕ → Type 0
+Known [] = Unit {0}
+Known (c ∷ cs) = (is_strange (category_of c) ≡ false) × Known cs
+
+module _ (new : List ℕ) (at : ℕ) (old : List ℕ) (k : Marks) (js : List Item) (once : Once (items (drop at new)))
+    (left : (c : ℕ) → is_strange (category_of c) ≡ false → marked_pick c old (mark_of (category_of c) k) ≡ pick c js) where
+  all_picked : (cs : List ℕ) → Known cs
+      → picked_all cs new (marks_from new at no_marks) old k ≡ picks cs (items (drop at new) ++ js)
+  unfolding picked_all picks
+  all_picked [] known = refl
+  all_picked (c ∷ cs) known =
+      ap₂ ◌++◌ (either_picked c known.0 new at old (mark_of (category_of c) k) js once (left c known.0)) (all_picked cs known.1)
+
+  store_picked : marked_store new (marks_from new at no_marks) old k ≡ stored (items (drop at new) ++ js)
+  unfolding marked_store stored offerable is_strange category_of
+  store_picked = all_picked offerable (refl, (refl, (refl, (refl, (refl, tt)))))
 
 -- nothing is kept of the old list
 store_new : (rule : Rule) → Asks rule → (caps : List Item) (new : List ℕ) (at : ℕ) (old : List ℕ)
     → (fault_in rule caps (items (drop at new))).code ≡ 0
     → marked_store new (marks_from new at no_marks) old no_marks ≡ stored (items (drop at new))
-unfolding no_marks pick
+unfolding pick
 store_new rule asks caps new at old clean =
-    let once = list_once rule asks caps (items (drop at new)) clean in
-    let none : (c : ℕ) → marked_pick c old 0 ≡ [] = λ c. none_picked c old in
-    store_picked new at old no_marks [] once (none 1) (none 2) (none 4) (none 7) (none 8)
+    store_picked new at old no_marks [] (list_once rule asks caps (items (drop at new)) clean)
+    (λ c _. ap (marked_pick c old) (no_mark (category_of c)) ∙ none_picked c old)
     ∙ ap stored (append-nil (items (drop at new)))
 
 -- what the new list lacks is kept of the old one, which has no fault either
@@ -322,15 +317,13 @@ unfolding restored
 store_again rule asks caps new at rule' asks' caps' old clean clean' =
     let once = list_once rule' asks' caps' (items old) clean' in
     store_picked new at old (marks_from old 0 no_marks) (items old) (list_once rule asks caps (items (drop at new)) clean)
-    (marked_picked 1 _ transport_mark old 0 once) (marked_picked 2 _ reporting_mark old 0 once)
-    (marked_picked 4 _ protection_mark old 0 once) (marked_picked 7 _ codec_mark old 0 once)
-    (marked_picked 8 _ delaying_mark old 0 once)
+    (λ c known. marked_picked c known old 0 once)
 
 -- ---- By the checks that the commands make
 
 -- the check of a stored configuration gives its marks
 pub could_checked : (caps : List Item) (l : List ℕ) → could_store caps l ≡ true
-    → check_of Setting caps l 0 ≡ Clean (marks_from l 0 no_marks)
+    → check_of Setting caps l 0 ≡ Ok (marks_from l 0 no_marks)
 unfolding check_of could_store
 could_checked caps l e =
     sym (told_marks (fault_in Setting caps (items l)) (marks_from l 0 no_marks)
@@ -343,7 +336,7 @@ pub record Stores (new : List ℕ) (m : Marks) (old : List ℕ) (k : Marks) (con
   pub same : marked_store new m old k ≡ config
 
 -- Set Configuration with no fault
-pub set_stores : (caps : List Item) (new : List ℕ) (at : ℕ) (old : List ℕ) {m : Marks} → check_of Setting caps new at ≡ Clean m
+pub set_stores : (caps : List Item) (new : List ℕ) (at : ℕ) (old : List ℕ) {m : Marks} → check_of Setting caps new at ≡ Ok m
     → Stores new m old no_marks (stored (items (drop at new)))
 set_stores caps new at old {m} e =
     let (clean, same) = check_clean Setting caps new at m (sym e) in
@@ -356,7 +349,7 @@ set_stores caps new at old {m} e =
 
 -- Reconfigure with no fault, and the check of what is stored
 pub again_stores : (caps : List Item) (new : List ℕ) (at : ℕ) (old : List ℕ) {m k : Marks}
-    → check_of Reconfiguring caps new at ≡ Clean m → check_of Setting caps old 0 ≡ Clean k
+    → check_of Reconfiguring caps new at ≡ Ok m → check_of Setting caps old 0 ≡ Ok k
     → Stores new m old k (restored (items (drop at new)) (items old))
 again_stores caps new at old {m} {k} e f =
     let (clean, same) = check_clean Reconfiguring caps new at m (sym e) in

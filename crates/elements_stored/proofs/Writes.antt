@@ -15,9 +15,6 @@ Wrote to s a b r = (b ≡ patch to s a) × (r ≡ to + length s)
 pub wrote_none : (to : ℕ) (s a : List ℕ) → s ≡ [] → Wrote to s a a to
 wrote_none to s a e = rw e (patch_none to a, sym (add-zero to))
 
-pub wrote_as : (to : ℕ) (s t a : List ℕ) {b : List ℕ} {r : ℕ} → s ≡ t → Wrote to t a b r → Wrote to s a b r
-wrote_as to s t a e h = rw e h
-
 -- one write behind another
 pub wrote_further : (to : ℕ) (s t a : List ℕ) {b b' : List ℕ} {r r' : ℕ} → to + length s + length t ≤ length a → Wrote to s a b r
     → Wrote r t b b' r' → Wrote to (s ++ t) a b' r'

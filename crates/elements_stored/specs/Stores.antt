@@ -1,6 +1,7 @@
 -- What a configuration is stored as, by the marks of the two lists that it comes from.
-use Rattle.std.specs.Prelude.{ℕ, ◌+◌, ◌-◌, ◌≤◌, ◌<◌, List, [], ◌++◌, length, take, drop, get_or, eqb, if◌then◌else◌}
-use Rattle.rules.specs.Elements.{element, kept}
+use Rattle.std.specs.Prelude.{ℕ, ◌+◌, ◌-◌, ◌≤◌, ◌<◌, List, [], ◌∷◌, ◌++◌, length, take, drop, get_or, eqb, if◌then◌else◌}
+use Rattle.rules.specs.Elements.{element, kept, category_of, offerable}
+use Rattle.elements.specs.Marks.{mark_of}
 use Rattle.elements.specs.declared.marks.Marks.{Marks}
 
 -- of a value that begins at a place of a list: its length, by the octet before it, and its octets
@@ -18,14 +19,17 @@ marked_pick c l place = if eqb place 0 then [] else element c (kept c (value_at 
 unfoldable pub either_pick : ℕ → List ℕ → ℕ → List ℕ → ℕ → List ℕ
 either_pick c new fresh old left = if eqb fresh 0 then marked_pick c old left else marked_pick c new fresh
 
+-- so at the marks of its category
+abbrev pub picked : ℕ → List ℕ → Marks → List ℕ → Marks → List ℕ
+picked c new f old k = either_pick c new (mark_of (category_of c) f) old (mark_of (category_of c) k)
+
+unfoldable pub picked_all : List ℕ → List ℕ → Marks → List ℕ → Marks → List ℕ
+picked_all [] new f old k = []
+picked_all (c ∷ cs) new f old k = picked c new f old k ++ picked_all cs new f old k
+
 -- the whole configuration, categories ascending
 unfoldable pub marked_store : List ℕ → Marks → List ℕ → Marks → List ℕ
-marked_store new f old k =
-    either_pick 1 new f.transport old k.transport
-    ++ (either_pick 2 new f.reporting old k.reporting
-    ++ (either_pick 4 new f.protection old k.protection
-    ++ (either_pick 7 new f.codec old k.codec
-    ++ either_pick 8 new f.delaying old k.delaying)))
+marked_store new f old k = picked_all offerable new f old k
 
 -- a value that begins at a place other than 0 runs no further than the list
 abbrev pub PickFits : List ℕ → ℕ → Type 0

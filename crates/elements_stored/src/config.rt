@@ -1,10 +1,13 @@
 // Storing a configuration: the elements of a command and, where it has none of a category, the one stored before; categories
 // ascending.
-ghost use Rattle.std.specs.Prelude.{◌≡◌, ◌+◌, ◌≤◌, length};
+ghost use Rattle.std.specs.Prelude.{◌≡◌, ◌+◌, ◌≤◌, true, length};
+ghost use Rattle.rules.specs.Octets.{member};
+ghost use Rattle.rules.specs.Elements.{offerable};
 ghost use Rattle.octets.specs.Patch.{patch};
-ghost use Rattle.elements_stored.specs.Stores.{marked_pick, either_pick, marked_store, PickFits, MarksFit};
+ghost use Rattle.elements_stored.specs.Picked.{one_of, store_of};
+ghost use Rattle.elements_stored.specs.Stores.{marked_pick, PickFits};
 
-use elements::marks::Marks;
+pub use crate::picks::Picks;
 
 // Writes the element of a category whose value begins at `place` of the list, nothing where that is 0; gives where it ends.
 pub fn put_pick(area: &mut [u8], to: usize, category: u8, list: &[u8], place: usize) -> usize
@@ -15,56 +18,40 @@ pub fn put_pick(area: &mut [u8], to: usize, category: u8, list: &[u8], place: us
     if place == 0 {
         return to;
     }
-    let before = place - 1;
-    let size = list[before] as usize;
+    let size = list[place - 1] as usize;
     area[to] = category;
-    octets::put(area, to + 1, octets::part(list, before, size + 1));
-    let end = to + 2 + size;
-    if category != 7 {
-        return end;
+    octets::put(area, to + 1, octets::part(list, place - 1, size + 1));
+    if category == 7 && size != 0 {
+        area[to + 2] = list[place] / 16 * 16;
     }
-    if size == 0 {
-        return end;
-    }
-    area[to + 2] = list[place] / 16 * 16;
-    end
+    to + 2 + size
 }
 
-// Writes the new element of a category or, where there is none, the old one; gives where it ends.
-pub fn put_either(
-    area: &mut [u8],
-    to: usize,
-    category: u8,
-    new: &[u8],
-    fresh: u16,
-    old: &[u8],
-    left: u16,
-) -> usize
-    requires { PickFits new.now fresh × PickFits old.now left
-        × (to + length (either_pick category new.now fresh old.now left) ≤ length area.old) }
-    ensures area { area.new
-        ≡ patch to (either_pick category new.now fresh old.now left) area.old }
-    ensures end { result ≡ to + length (either_pick category new.now fresh old.now left) }
+// Writes the new element of a category that is stored or, where there is none, the old one; gives where it ends.
+#[tactic(auto, unfolding(crate::specs::Stores::either_pick), using(crate::proofs::Fits::fits_at))]
+fn put_one(area: &mut [u8], to: usize, category: u8, new: Picks<'_>, old: Picks<'_>) -> usize
+    requires { (member category offerable ≡ true) × (to + length (one_of category new old) ≤ length area.old) }
+    ensures area { area.new ≡ patch to (one_of category new.entry old.entry) area.old }
+    ensures end { result ≡ to + length (one_of category new.entry old.entry) }
 {
-    if fresh == 0 {
-        put_pick(area, to, category, old, left as usize)
+    let fresh = new.marks.of(category);
+    let (list, place) = if fresh == 0 {
+        (old.list, old.marks.of(category))
     } else {
-        put_pick(area, to, category, new, fresh as usize)
-    }
+        (new.list, fresh)
+    };
+    put_pick(area, to, category, list, place as usize)
 }
 
 // Writes the stored configuration into the area from `to` on; gives its length.
-pub fn store(area: &mut [u8], to: usize, new: &[u8], fresh: Marks, old: &[u8], left: Marks) -> usize
-    requires { MarksFit new.now fresh × MarksFit old.now left
-        × (to + length (marked_store new.now fresh old.now left) ≤ length area.old) }
-    ensures area { area.new
-        ≡ patch to (marked_store new.now fresh old.now left) area.old }
-    ensures length { result ≡ length (marked_store new.now fresh old.now left) }
+pub fn store(area: &mut [u8], to: usize, new: Picks<'_>, old: Picks<'_>) -> usize
+    requires { to + length (store_of new old) ≤ length area.old }
+    ensures area { area.new ≡ patch to (store_of new.entry old.entry) area.old }
+    ensures length { result ≡ length (store_of new.entry old.entry) }
 {
-    let one = put_either(area, to, 1, new, fresh.transport, old, left.transport);
-    let two = put_either(area, one, 2, new, fresh.reporting, old, left.reporting);
-    let four = put_either(area, two, 4, new, fresh.protection, old, left.protection);
-    let seven = put_either(area, four, 7, new, fresh.codec, old, left.codec);
-    let eight = put_either(area, seven, 8, new, fresh.delaying, old, left.delaying);
-    eight - to
+    let mut end = to;
+    for category in [1, 2, 4, 7, 8] {
+        end = put_one(area, end, category, new, old);
+    }
+    end - to
 }

@@ -6,21 +6,22 @@ ghost use Rattle.elements_reader.specs.Orders.{codec_end};
 use elements_reader::{Element, element_at};
 
 // Where the codec ends that is looked for from `at` on. In a right list all elements up to there are shown and none behind.
+#[tactic(auto, using(crate::proofs::Ends::turns))]
 pub fn codec_end(list: &[u8], at: usize) -> usize
     ensures { result ≡ at + codec_end (items (drop at list.now)) }
 {
-    let element = element_at(list, at);
     let Element::Whole {
         category,
         length,
         first,
-    } = element
+    } = element_at(list, at)
     else {
         return at;
     };
     let end = first + length;
     if category == 7 {
-        return end;
+        end
+    } else {
+        codec_end(list, end)
     }
-    codec_end(list, end)
 }

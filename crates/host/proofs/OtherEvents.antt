@@ -12,6 +12,7 @@ use Rattle.rules.specs.Octets.{between}
 use Rattle.rules.specs.Elements.{items}
 use Rattle.rules.specs.Book.{Entry, media_type, list_right, book_number, book_of, Found, unknown, known, find}
 use Rattle.rules.specs.Endpoints.{down_at, happens}
+use Rattle.rules.specs.Saved.{connection_in}
 use Rattle.rules.specs.Host.{number_or, refusal_of, event_call}
 use Rattle.rules.specs.declared.Event.TheVariants.{Down}
 use Rattle.rules.proofs.Tests.{Told?, told, passed, failed, and_l, between_least}
@@ -19,8 +20,6 @@ use Rattle.rules.proofs.RightBook.{entry_right, right_book}
 use Rattle.rules.proofs.Places.{find_known}
 use Rattle.rules.proofs.ShortReplies.{entry_at}
 use Rattle.rules.proofs.Unrefused.{none_refused}
-use Rattle.bridge_refusals.proofs.Refusing.{number_first}
-use Rattle.bridge_link.proofs.Happened.{event_refused}
 use Rattle.host.specs.Exports.{ours, event_of}
 
 pub no_event : (which seid : ℕ) → (which ≡ 0 → ⊥) → (which ≡ 1 → ⊥) → (which ≡ 2 → ⊥) → Down (ours 0) ≡ event_of which seid
@@ -53,6 +52,11 @@ no_zero book right = go (find (ours 0) (book_of book)) refl
 
 -- ---- What such an event is told
 
+number_first : (n next : ℕ) → (n ≡ 0 → ⊥) → n ≡ number_or n next
+unfolding number_or
+number_first zero next h = absurd (h refl)
+number_first (suc n) next h = refl
+
 zero_down : (book saved : List ℕ)
     → event_call book saved (Down (ours 0)) ≡ record { number = number_or (refusal_of book saved) 10; saved = saved }
 unfolding event_call happens down_at number_or
@@ -65,8 +69,8 @@ zero_down book saved = go (told (eqb (refusal_of book saved) 0))
     go (failed t) =
         let n = refusal_of book saved in
         let h = eqb-false n 0 t in
-        sym (event_refused book saved (Down (ours 0)) n refl h)
-        ∙ ap (λ (k : ℕ). record { number = k; saved = saved }) (number_first n 10 h)
+        let m = happens (book_of book) (connection_in (length (book_of book)) saved) (Down (ours 0)) in
+        rw (← (number_first n m.number h), t, ← (number_first n 10 h))
 
 pub other_event : (book saved : List ℕ) (which seid : ℕ) → 3 ≤ which
     → event_call book saved (event_of which seid) ≡ record { number = number_or (refusal_of book saved) 10; saved = saved }

@@ -1,24 +1,25 @@
 -- Where an endpoint's settings stand: the octet of the record that tells the configuration's length decides between the two
 -- areas, and the part there is what the settings call shows.
-use Prim.Native.Nat.{ℕ, ◌+◌, ◌*◌, ◌≤◌, ◌<◌}
+use Prim.Native.Nat.{ℕ, ◌+◌, ◌*◌, ◌≤◌}
 use native.Mathlib.Omega.{arith}
 use mathlib.Core.Path.{◌≡◌, refl, sym, ap, ◌∙◌}
 use mathlib.Core.List.{List, []}
 use lib.ListN.{length, take, drop, get_or, length-drop, length-take}
 use lib.Seq.{get_or-drop, drop-drop}
-use lib.Dec.{eqb}
-use borrow.Author.Tests.{eq-eqb, ne_eqb, eqb-true, eqb-false}
+use borrow.Author.Tests.{eq-eqb, ne_eqb}
 use Rattle.rules.specs.Saved.{records_place, record_room, head_room, records_of}
-use Rattle.rules.specs.Host.{refusal_of, Shown, settings_call}
-use Rattle.rules.proofs.Tests.{Told?, told, passed, failed}
+use Rattle.std.proofs.Math.Logic.{⊎_elim}
+use Rattle.rules.specs.Host.{Shown, settings_call}
+use Rattle.rules.specs.Refusals.{number_of}
+use Rattle.rules.specs.declared.refusals.Refusal.{Refusal}
+use Rattle.rules.proofs.Refusing.{never_0}
 use Rattle.octets.specs.Patch.{part}
 use Rattle.book.specs.Places.{known_at, place_in}
-use Rattle.book.specs.declared.places.Located.{Located}
-use Rattle.book.specs.declared.places.Located.TheVariants.{Unknown, Known}
 use Rattle.saved.specs.Records.{config_at}
 use Rattle.saved.proofs.Configs.{size_short, config_part}
-use Rattle.bridge_refusals.proofs.Refusing.{Calm, calm}
-use Rattle.bridge_questions.proofs.Asked.{refused_shown, missing_shown, there_shown, record_there, config_fits, offer_inside}
+use Rattle.bridge_refusals.proofs.Refusing.{Calm}
+use Rattle.bridge_questions.specs.Questions.{asked}
+use Rattle.bridge_questions.proofs.Asked.{refused_by, refused, there_shown, record_there, config_fits, offer_inside}
 use Rattle.bridge_questions.proofs.Asked.{offer_shown, config_shown}
 use Rattle.host.specs.Exports.{ours, nowhere_by, record_from, span_at, span_call, area_by, shown_by, Stands}
 use Rattle.host.specs.declared.Span.{Span}
@@ -35,13 +36,14 @@ module _ (book saved : List ℕ) (seid : ℕ) where
       → settings_call book saved (ours seid) ≡ record { number = n; part = [] } → Stands book saved seid (nowhere_by n)
   stands_nowhere n here e = record { place = here; shows = nowhere_shows n e; inside = omega arith }
 
-  refused : (n : ℕ) → n ≡ refusal_of book saved → (n ≡ 0 → ⊥) → Stands book saved seid (nowhere_by n)
-  unfolding span_call
-  refused n e h = stands_nowhere n (rw (← e, ne_eqb n 0 h)) (refused_shown book saved (ours seid) n e h)
-
-  pub missing : Calm book saved → place_in (ours seid) book ≡ Unknown → Stands book saved seid (nowhere_by 10)
+  pub refused_stands : (refusal : Refusal) → number_of refusal ≡ asked book saved (ours seid)
+      → Stands book saved seid (nowhere_by (number_of refusal))
   unfolding span_call span_at
-  missing calm e = stands_nowhere 10 (rw (calm.allowed, e)) (missing_shown book saved (ours seid) calm e)
+  refused_stands refusal told =
+      stands_nowhere (number_of refusal)
+      (⊎_elim (λ e. rw (← e, ne_eqb (number_of refusal) 0 (never_0 refusal))) (λ h. rw (h.0, h.1, h.2))
+      (refused_by book saved (ours seid) refusal told))
+      (refused book saved (ours seid) refusal told).shown
 
   -- ---- Somewhere
 
@@ -160,36 +162,3 @@ module _ (book saved : List ℕ) (seid : ℕ) where
               (λ e. some (sym config_long ∙ e)));
           inside = stored_within;
         }
-
-  -- ---- What the number tells
-
-  module _ (known : (i : ℕ) → get_or saved i 0 < 256) (n : ℕ) (e : n ≡ (settings_call book saved (ours seid)).number) where
-    quiet : Told? (eqb (refusal_of book saved) 0) → n ≡ 0 → Calm book saved
-    quiet (passed t) z = calm book saved (refusal_of book saved) known refl (eqb-true (refusal_of book saved) 0 t)
-    quiet (failed t) z =
-        let h = eqb-false (refusal_of book saved) 0 t in
-        let shown = refused_shown book saved (ours seid) (refusal_of book saved) refl h in
-        absurd (h (sym (ap (λ (x : Shown). x.number) shown) ∙ sym e ∙ z))
-
-    -- 0: nothing is refused
-    pub told_none : n ≡ 0 → Calm book saved
-    told_none = quiet (told (eqb (refusal_of book saved) 0))
-
-    by_place : Calm book saved → (n ≡ 0 → ⊥) → (p : Located) → place_in (ours seid) book ≡ p → Stands book saved seid (nowhere_by n)
-    by_place calm h Unknown at =
-        let shown = missing_shown book saved (ours seid) calm at in
-        rw (e ∙ ap (λ (x : Shown). x.number) shown) (missing calm at)
-    by_place calm h (Known p) at = absurd (h (e ∙ sym (answered calm p.index p.kind p.from p.size at)))
-
-    by_refusal : (n ≡ 0 → ⊥) → Told? (eqb (refusal_of book saved) 0) → Stands book saved seid (nowhere_by n)
-    by_refusal h (passed t) =
-        by_place (calm book saved (refusal_of book saved) known refl (eqb-true (refusal_of book saved) 0 t)) h
-        (place_in (ours seid) book) refl
-    by_refusal h (failed t) =
-        let some = eqb-false (refusal_of book saved) 0 t in
-        let shown = refused_shown book saved (ours seid) (refusal_of book saved) refl some in
-        refused n (e ∙ ap (λ (x : Shown). x.number) shown) h
-
-    -- any other: the settings stand nowhere
-    pub told_some : (n ≡ 0 → ⊥) → Stands book saved seid (nowhere_by n)
-    told_some h = by_refusal h (told (eqb (refusal_of book saved) 0))

@@ -1,6 +1,7 @@
 -- The contracts of the calls that a host in C makes: the numbers that cross are those of the definition of the call, and so is
 -- every lent area at exit.
-use Rattle.std.specs.Prelude.{ℕ, ◌+◌, ◌*◌, ◌≤◌, ◌≡◌, List, [], ◌∷◌, length, get_or, eqb, if◌then◌else◌}
+use Rattle.std.specs.Prelude.{ℕ, ◌+◌, ◌*◌, ◌≤◌, ◌≡◌, List, [], ◌∷◌, length, get_or, eqb, if◌then◌else◌, None, Some}
+use Rattle.std.specs.declared.option.Option.{Option}
 use Rattle.rules.specs.Saved.{records_place, record_room, head_room, state_octet, channel_octet, config_length_place}
 use Rattle.rules.specs.Host.{Kept, event_call, refusal_of, Shown, settings_call, status_call}
 use Rattle.rules.specs.declared.OurSeid.{OurSeid}
@@ -8,8 +9,7 @@ use Rattle.rules.specs.declared.Event.{Event}
 use Rattle.rules.specs.declared.Event.TheVariants.{Up, Down, Lost}
 use Rattle.octets.specs.Patch.{part}
 use Rattle.book.specs.Places.{place_in}
-use Rattle.book.specs.declared.places.Located.{Located}
-use Rattle.book.specs.declared.places.Located.TheVariants.{Unknown, Known}
+use Rattle.book.specs.declared.places.Place.{Place}
 use Rattle.host.specs.declared.Span.{Span}
 use Rattle.host.specs.declared.Standing.{Standing}
 
@@ -36,9 +36,9 @@ abbrev pub record_from : ℕ → ℕ
 record_from i = records_place + i * record_room
 
 -- the configuration of record i where it has one, else the list of the book's entry
-unfoldable pub span_at : Located → List ℕ → Span
-span_at Unknown saved = nowhere_by 10
-span_at (Known p) saved =
+unfoldable pub span_at : Option Place → List ℕ → Span
+span_at None saved = nowhere_by 10
+span_at (Some p) saved =
     let n = get_or saved (record_from p.index + config_length_place) 0 in
     if eqb n 0 then record { number = 0; area = 1; offset = p.from; length = p.size }
     else record { number = 0; area = 2; offset = record_from p.index + head_room; length = n }

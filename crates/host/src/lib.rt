@@ -1,6 +1,6 @@
 // The public calls for a host in C: `bridge`'s, over slices and numbers. A slice crosses as two parameters, where it begins and
-// how long it is; include/bawbeenor.h says the same in C. Each answers as the call of `bridge` with the same numbers, on every
-// input.
+// how long it is; include/bawbeenor.h says the same in C. A refusal crosses as its number, 0 where there is none. Each answers as
+// the call of `bridge` with the same numbers, on every input.
 #![tactic(auto)]
 
 mod events;
@@ -10,11 +10,15 @@ ghost use Rattle.rules.specs.Host.{check_call, delay_call, packets_call};
 ghost use Rattle.rules.specs.Calls.{Freshens, Takes, TakesAll, Cuts};
 ghost use Rattle.host.specs.Exports.{ours, HappensBy, Stands, status_by};
 
-use book::places::Located;
+use crate::events::event_of;
+use bridge_questions::locate;
 use rules::layout::{CONFIG_LENGTH, HEAD, RECORD, RECORDS};
-use rules::{Burst, Heard, OurSeid, Piece, Told};
+use rules::refusals::number;
+use rules::{Burst, Header, Heard, OurSeid, Piece, Told};
+use saved::records::{channel_octet, state_octet};
 
 // Where an endpoint's settings stand: a number, the area (0 none, 1 the book, 2 the saved area), the place in it and the length.
+// No slice crosses to C in a struct, and no enum of ours is a number there.
 #[repr(C)]
 #[derive(Drop)]
 pub struct Span {
@@ -39,14 +43,14 @@ pub struct Standing {
 pub extern "C" fn bawbeenor_check(book: &[u8]) -> u8
     ensures { result ≡ check_call book.now }
 {
-    bridge::check(book)
+    number(bridge::check(book))
 }
 
 #[unsafe(no_mangle)]
 pub extern "C" fn bawbeenor_fresh(book: &[u8], saved: &mut [u8]) -> u8
     ensures { Freshens book.now saved.old result saved.new }
 {
-    bridge::fresh(book, saved)
+    number(bridge::fresh(book, saved))
 }
 
 #[unsafe(no_mangle)]
@@ -84,8 +88,7 @@ pub extern "C" fn bawbeenor_burst(
 pub extern "C" fn bawbeenor_event(book: &[u8], saved: &mut [u8], which: u8, seid: u8) -> u8
     ensures { HappensBy book.now saved.old which seid result saved.new }
 {
-    let event = events::event_of(which, seid);
-    bridge::event(book, saved, event)
+    number(bridge::event(book, saved, event_of(which, seid)))
 }
 
 fn nowhere(number: u8) -> Span
@@ -103,32 +106,25 @@ fn nowhere(number: u8) -> Span
 pub extern "C" fn bawbeenor_settings(book: &[u8], saved: &[u8], seid: u8) -> Span
     ensures { Stands book.now saved.now seid result }
 {
-    let number = bridge::settings_told(book, saved, OurSeid(seid));
-    if number != 0 {
-        return nowhere(number);
-    }
-    let located = book::places::locate(book, OurSeid(seid));
-    match located {
-        Located::Unknown => nowhere(10),
-        Located::Known(place) => {
-            let index = place.index;
-            let head = RECORDS + index * RECORD;
-            let length = saved[head + CONFIG_LENGTH] as usize;
-            if length == 0 {
-                Span {
-                    number: 0,
-                    area: 1,
-                    offset: place.from,
-                    length: place.size,
-                }
-            } else {
-                Span {
-                    number: 0,
-                    area: 2,
-                    offset: head + HEAD,
-                    length,
-                }
-            }
+    let place = match locate(book, saved, OurSeid(seid)) {
+        Ok(place) => place,
+        Err(refusal) => return nowhere(u8::from(refusal)),
+    };
+    let head = RECORDS + place.index * RECORD;
+    let length = saved[head + CONFIG_LENGTH] as usize;
+    if length == 0 {
+        Span {
+            number: 0,
+            area: 1,
+            offset: place.from,
+            length: place.size,
+        }
+    } else {
+        Span {
+            number: 0,
+            area: 2,
+            offset: head + HEAD,
+            length,
         }
     }
 }
@@ -141,16 +137,15 @@ pub extern "C" fn bawbeenor_delay(book: &[u8], saved: &[u8], seid: u8) -> Heard
 }
 
 #[unsafe(no_mangle)]
+#[tactic(auto, unfolding(crate::specs::Exports::status_by))]
 pub extern "C" fn bawbeenor_status(book: &[u8], saved: &[u8], seid: u8) -> Standing
     ensures { result ≡ status_by book.now saved.now seid }
 {
     let told = bridge::status(book, saved, OurSeid(seid));
-    let state = told.state;
-    let channel = told.channel;
     Standing {
         number: told.number,
-        state: saved::records::state_octet(state),
-        channel: saved::records::channel_octet(channel),
+        state: state_octet(told.state),
+        channel: channel_octet(told.channel),
         far: told.far.0,
     }
 }
@@ -174,5 +169,10 @@ pub extern "C" fn bawbeenor_cut(
 ) -> Piece
     ensures { Cuts size label mtype signal payload.now index area.old result area.new }
 {
-    bridge::cut(size, label, mtype, signal, payload, index, area)
+    let header = Header {
+        label,
+        mtype,
+        signal,
+    };
+    bridge::cut(size, header, payload, index, area)
 }

@@ -7,7 +7,7 @@ use native.Mathlib.Nat.{zero-add, add-zero}
 use native.Mathlib.Numerals.{add-one}
 use native.Mathlib.Omega.{arith}
 use lib.ListN.{length, take, drop, set, length-append, length-take, length-drop, take-append-drop}
-use lib.Seq.{take_at, drop_at, length-take-le, drop-drop, take-take, take-append-le, drop-append-le, take-append-add}
+use lib.Seq.{take_at, drop_at, length-take-le, drop-drop, take-take, take-append-add}
 use lib.Seq.{drop-append-add, take-append_seam, take-nil, take-add, set_split, set_at, sets, sets-eq}
 use Rattle.rules.specs.Octets.{front}
 use Rattle.octets.specs.Patch.{patch, part}
@@ -55,15 +55,6 @@ part_take zero size n d h = take-take size n d (omega arith)
 part_take (suc from) size n [] h = rw (take-nil {A = ℕ} n)
 part_take (suc from) size zero (x ∷ d) h = absurd (omega arith)
 part_take (suc from) size (suc n) (x ∷ d) h = part_take from size n d (omega arith)
-
-pub part_before : (from size at : ℕ) (s d : List ℕ) → from + size ≤ at → at ≤ length d → part from size (patch at s d)
-    ≡ part from size d
-unfolding patch part
-part_before from size at s d h k =
-    let room : length (take at d) ≡ at = length-take-le at d k in
-    ap (take size) (drop-append-le from (take at d) (s ++ drop (at + length s) d) (omega arith))
-    ∙ take-append-le size (drop from (take at d)) (s ++ drop (at + length s) d) (simp length-drop (omega arith))
-    ∙ part_take from size at d h
 
 pub drop_patch : (n at : ℕ) (s d : List ℕ) → at + length s ≤ n → at + length s ≤ length d → drop n (patch at s d) ≡ drop n d
 unfolding patch
@@ -179,20 +170,6 @@ patch_append at s t d h =
     ∙ ap (λ (x : List ℕ). a ++ (s ++ (t ++ x))) (drop-drop (length t) (at + length s) d ∙ ap (λ (n : ℕ). drop n d) e)
     ∙ ap (λ (x : List ℕ). a ++ x) (sym (append_assoc s t (drop (at + length (s ++ t)) d)))
 
--- two parts in a row, written in a row
-pub patch_parts : (to i m n : ℕ) (s d : List ℕ) → i + (m + n) ≤ length s → to + (m + n) ≤ length d
-    → patch (to + m) (part (i + m) n s) (patch to (part i m s) d) ≡ patch to (part i (m + n) s) d
-unfolding part
-patch_parts to i m n s d h k =
-    let a = part i m s in
-    let b = part (i + m) n s in
-    let la : length a ≡ m = part_length i m s (omega arith) in
-    let lb : length b ≡ n = part_length (i + m) n s (omega arith) in
-    ap (λ (x : ℕ). patch (to + x) b (patch to a d)) (sym la)
-    ∙ patch_append to a b d (omega arith)
-    ∙ ap (λ (l : List ℕ). patch to l d)
-    (sym (take-add m n (drop i s) ∙ ap (λ (l : List ℕ). a ++ take n l) (drop-drop m i s)))
-
 -- a second write over all of the first
 patch_over : (at : ℕ) (s t d : List ℕ) → length s ≤ length t → at + length t ≤ length d
     → patch at t (patch at s d) ≡ patch at t d
@@ -227,6 +204,20 @@ unfolding patch
 patch_behind at x s d h =
     ap (patch (at + 1) s) (set_split d at x (omega arith) ∙ ap (λ (n : ℕ). take at d ++ x ∷ drop n d) (sym (add-one at)))
     ∙ patch_append at (x ∷ []) s d h
+
+-- a part put in two, one behind the other
+pub patch_parts : (to i m n : ℕ) (s d : List ℕ) → i + (m + n) ≤ length s → to + (m + n) ≤ length d
+    → patch (to + m) (part (i + m) n s) (patch to (part i m s) d) ≡ patch to (part i (m + n) s) d
+unfolding part
+patch_parts to i m n s d h k =
+    let a = part i m s in
+    let b = part (i + m) n s in
+    let la : length a ≡ m = part_length i m s (omega arith) in
+    let lb : length b ≡ n = part_length (i + m) n s (omega arith) in
+    ap (λ (x : ℕ). patch (to + x) b (patch to a d)) (sym la)
+    ∙ patch_append to a b d (omega arith)
+    ∙ ap (λ (l : List ℕ). patch to l d)
+    (sym (take-add m n (drop i s) ∙ ap (λ (l : List ℕ). a ++ take n l) (drop-drop m i s)))
 
 -- octets stored one behind the other
 pub patch_sets : (at : ℕ) (s d : List ℕ) → at + length s ≤ length d → sets d at s ≡ patch at s d

@@ -1,2 +1,1 @@
 pub mod Patch
-pub mod Fours

@@ -4,29 +4,30 @@
 ghost use Rattle.std.specs.Prelude.{◌≡◌, ◌∷◌, ◌+◌, ◌≤◌, length, replicate};
 ghost use Rattle.rules.specs.Octets.{same_octets};
 ghost use Rattle.octets.specs.Patch.{part as part_of};
-ghost use Rattle.octets_alone.specs.Weights.{Weighed};
+ghost use Rattle.octets_alone.specs.Weights.{little_of};
 
-// The four octets from `at` on, low octet first.
-fn four(s: &[u8], at: usize) -> u32
-    requires { at + 4 ≤ length s.now }
-    ensures { Weighed (part_of at 4 s.now) result }
-{
-    s[at] as u32 + s[at + 1] as u32 * 256 + s[at + 2] as u32 * 65536 + s[at + 3] as u32 * 16777216
-}
-
-// The eight octets from `at` on, low octet first.
+// The eight octets from `at` on as one number, low octet first. One by one they are loaded at once; copied out as a slice they
+// pass through memory.
 fn eight(s: &[u8], at: usize) -> u64
     requires { at + 8 ≤ length s.now }
-    ensures { Weighed (part_of at 8 s.now) result }
+    ensures { result ≡ little_of (part_of at 8 s.now) }
 {
-    four(s, at) as u64 + four(s, at + 4) as u64 * 4294967296
+    u64::from_le_bytes([
+        s[at],
+        s[at + 1],
+        s[at + 2],
+        s[at + 3],
+        s[at + 4],
+        s[at + 5],
+        s[at + 6],
+        s[at + 7],
+    ])
 }
 
-// Whether the eight octets from `at` on are `first` and seven zeros. Added up with their weights they are one number, which the
-// machine loads at once.
+// Whether the eight octets from `at` on are `first` and seven zeros: as numbers, which is one comparison.
 pub fn alone(s: &[u8], at: usize, first: u8) -> bool
     requires { at + 8 ≤ length s.now }
     ensures { result ≡ same_octets (part_of at 8 s.now) (first ∷ replicate 7 0) }
 {
-    eight(s, at) == first as u64
+    eight(s, at) == u64::from(first)
 }

@@ -3,19 +3,18 @@
 use Prim.Native.Nat.{ℕ, zero, suc, ◌+◌, ◌-◌, ◌≤◌, ◌<◌, min, zero-le}
 use mathlib.Core.Path.{◌≡◌, refl, sym, ap, ap₂, ◌∙◌}
 use mathlib.Core.List.{List, ◌++◌}
-use mathlib.Core.Bool.{Bool, true, false, not, ◌&&◌}
+use mathlib.Core.Bool.{Bool, true, false}
 use native.Mathlib.Nat.{min-eq_left, min-eq_right}
 use native.Mathlib.Omega.{arith}
 use lib.ListN.{length, take, drop, length-take, length-drop}
 use lib.Seq.{take_all}
 use lib.Dec.{leb, ltb, eqb, lit≤}
-use borrow.Author.Tests.{lt-ltb, le-ltb, le-leb, lt-leb, leb-true, leb-false, eq-eqb, ne_eqb}
-use Rattle.rules.specs.Octets.{front, between}
+use borrow.Author.Tests.{lt-ltb, le-ltb, leb-true, leb-false, ne_eqb}
+use Rattle.rules.specs.Octets.{front}
 use Rattle.std.specs.Prelude.{if◌then◌else◌}
 use Rattle.rules.specs.Packets.{Message, size_right, longest}
-use Rattle.rules.specs.Cutting.{Headers, avdtp, packets_for, part_of, header, count_of, packet_at}
-use Rattle.rules.specs.Host.{packets_call, Cut, cut_refusal, cut_call}
-use Rattle.rules.specs.declared.Piece.{Piece}
+use Rattle.rules.specs.Cutting.{Headers, avdtp, part_of, header, count_of, packet_at}
+use Rattle.rules.specs.Host.{Cut, cut_refusal, cut_call}
 use Rattle.rules.proofs.Tests.{Told?, passed, failed, told, between_both}
 use Rattle.rules.proofs.Pieces.{before, Counts, one, several, before_less, header_of}
 use Rattle.rules.proofs.ReadsBack.{HasRoom, counts, header_length, packet_length}
@@ -24,35 +23,9 @@ use Rattle.octets.proofs.Patches.{front_patch, front_more}
 
 -- ---- The size
 
-pub size_small : (size : ℕ) → size < 48 → size_right size ≡ false
-unfolding size_right between
-size_small size h = rw (lt-leb 48 size h)
-
-pub size_large : (size : ℕ) → 672 < size → size_right size ≡ false
-unfolding size_right between
-size_large size h = rw (le-leb 48 size (omega arith), lt-leb size 672 h)
-
 pub size_right_lem : (size : ℕ) → 48 ≤ size → size ≤ 672 → size_right size ≡ true
 unfolding size_right
 size_right_lem size p q = between_both 48 672 size p q
-
--- ---- The count
-
-pub packets_wrong : (size n : ℕ) → size_right size ≡ false → packets_call size n ≡ 0
-unfolding packets_call
-packets_wrong size n wrong = rw wrong
-
-pub packets_right : (size n : ℕ) → size_right size ≡ true → n ≤ 512 → packets_call size n ≡ packets_for avdtp size n
-unfolding packets_call longest
-packets_right size n right short = rw (right, le-leb n 512 short)
-
-pub packets_long : (size n : ℕ) → 512 < n → packets_call size n ≡ 0
-unfolding packets_call longest
-packets_long size n long = go (size_right size)
-  where
-    go : (b : Bool) → (if b && leb n 512 then packets_for avdtp size n else 0) ≡ 0
-    go true = rw (lt-leb n 512 long)
-    go false = refl
 
 -- ---- Packet number k of a message, of as many as it takes
 
@@ -62,47 +35,7 @@ pub record Numbered (size : ℕ) (m : Message) (k total : ℕ) : Type 0 where
   pub whole : total ≡ count_of size m
   pub below : k < total
 
--- what the code finds out before it counts on a packet
-pub numbered : (size : ℕ) (m : Message) (k total : ℕ) → size_right size ≡ true
-    → total ≡ packets_call size (length m.payload) → k < total → Numbered size m k total
-unfolding count_of
-numbered size m k total right e below = go (told (leb (length m.payload) 512))
-  where
-    go : Told? (leb (length m.payload) 512) → Numbered size m k total
-    go (passed t) =
-        let short : length m.payload ≤ 512 = leb-true _ _ t in
-        record { right = right; short = short; whole = e ∙ packets_right size (length m.payload) right short; below = below }
-    go (failed t) = absurd (omega (arith, e, packets_long size (length m.payload) (leb-false _ _ t)))
-
 -- ---- Refusals
-
--- a refusal tells its number and leaves the area
-pub refuses : (size : ℕ) (m : Message) (k : ℕ) (area : List ℕ) (p : Piece) (n : ℕ) → p ≡ record { number = n; length = 0 }
-    → eqb n 0 ≡ false → cut_refusal size m k area ≡ n
-    → ◌≡◌ {A = Cut} (record { piece = p; area = area }) (cut_call size m k area)
-unfolding cut_call
-refuses size m k area p n e t r = rw (e, r, t)
-
-module _ (size : ℕ) (m : Message) (k : ℕ) (area : List ℕ) where
-  pub wrong_size : size_right size ≡ false → cut_refusal size m k area ≡ 8
-  unfolding cut_refusal
-  wrong_size wrong = rw wrong
-
-  pub too_high : (total : ℕ) → size_right size ≡ true → total ≡ packets_call size (length m.payload) → total ≤ k
-      → cut_refusal size m k area ≡ 11
-  unfolding cut_refusal longest count_of
-  too_high total right e high = go (told (leb (length m.payload) 512))
-    where
-      go : Told? (leb (length m.payload) 512) → cut_refusal size m k area ≡ 11
-      go (passed t) =
-          let c : packets_for avdtp size (length m.payload) ≡ total =
-          sym (e ∙ packets_right size (length m.payload) right (leb-true _ _ t)) in
-          rw (right, c, le-ltb k total high)
-      go (failed t) = rw (right, lt-ltb 512 (length m.payload) (leb-false _ _ t)) (either (ltb k (count_of size m)))
-        where
-          either : (b : Bool) → ◌≡◌ {A = ℕ} (if not b then 11 else 11) 11
-          either true = refl
-          either false = refl
 
 module _ {size : ℕ} {m : Message} {k total : ℕ} (n : Numbered size m k total) where
   low : ltb k (count_of size m) ≡ true
@@ -112,26 +45,6 @@ module _ {size : ℕ} {m : Message} {k total : ℕ} (n : Numbered size m k total
   not_long = le-ltb 512 (length m.payload) n.short
 
   module _ (area : List ℕ) where
-    pub label_large : 15 < m.header.label → cut_refusal size m k area ≡ 11
-    unfolding cut_refusal longest
-    label_large h = rw (n.right, low, not_long, le-ltb m.header.label 16 h)
-
-    pub type_large : m.header.label < 16 → 3 < m.header.mtype → cut_refusal size m k area ≡ 11
-    unfolding cut_refusal longest
-    type_large l h = rw (n.right, low, not_long, lt-ltb m.header.label 16 l, le-ltb m.header.mtype 4 h)
-
-    pub signal_large : m.header.label < 16 → m.header.mtype < 4 → 63 < m.header.signal → cut_refusal size m k area ≡ 11
-    unfolding cut_refusal longest
-    signal_large l t h =
-        rw (
-          n.right,
-          low,
-          not_long,
-          lt-ltb m.header.label 16 l,
-          lt-ltb m.header.mtype 4 t,
-          le-ltb m.header.signal 64 h,
-        )
-
     -- the numbers have room, and only the area can still be too short
     room_test : HasRoom m
         → cut_refusal size m k area ≡ (if ltb (length area) (length (packet_at size m k)) then 9 else 0)
@@ -171,19 +84,6 @@ header_small total zero = go (eqb total 1)
     go true = lit≤ tt
     go false = lit≤ tt
 header_small total (suc k) = lit≤ tt
-
-pub further_size : (total k : ℕ) → (k ≡ 0 → ⊥) → 1 ≡ header_of avdtp total k
-unfolding header_of
-further_size total zero h = absurd (h refl)
-further_size total (suc k) h = refl
-
-pub single_size : (total k : ℕ) → k ≡ 0 → total ≡ 1 → 2 ≡ header_of avdtp total k
-unfolding header_of
-single_size total k z e = rw (z, eq-eqb total 1 e)
-
-pub start_size : (total k : ℕ) → k ≡ 0 → (total ≡ 1 → ⊥) → 3 ≡ header_of avdtp total k
-unfolding header_of
-start_size total k z h = rw (z, ne_eqb total 1 h)
 
 -- a part is what remains of the payload, as far as the packet has room
 part_of_lem : (h : Headers) (m k : ℕ) {count : ℕ} (payload : List ℕ) → Counts h m (length payload) count
@@ -259,5 +159,6 @@ module _ {size : ℕ} {m : Message} {k total : ℕ} (n : Numbered size m k total
         ∙ front_more h p area
         ∙ ap (λ (x : List ℕ). front x area) joined
 
-    pub writes : ◌≡◌ {A = Cut} (record { piece = record { number = 0; length = head + rest }; area = b }) (cut_call size m k area)
+    pub writes :
+        ◌≡◌ {A = Cut} (record { piece = record { number = 0; length = head + rest }; area = b }) (cut_call size m k area)
     writes = sym (cuts n area r (omega (arith, whole_size)) ∙ rw (in_place, whole_size))

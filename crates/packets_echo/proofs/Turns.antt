@@ -1,26 +1,21 @@
 -- One turn, over plain values: packet number k is gathered to what is so far, and the last one gives the message back.
-use Prim.Native.Nat.{ℕ, zero, suc, ◌+◌, ◌≤◌, ◌<◌}
-use mathlib.Core.Path.{◌≡◌, refl, sym, ap, ap₂, ◌∙◌}
-use mathlib.Core.List.{List}
-use mathlib.Core.Bool.{true, false}
-use mathlib.Core.Option.{Option, some}
-use native.Mathlib.Numerals.{add-one}
-use native.Mathlib.Omega.{arith}
-use lib.ListN.{length, drop}
-use lib.Seq.{take-append_seam}
-use lib.Dec.{ltb}
+use Rattle.std.proofs.Common.{◌≡◌, ℕ, zero, suc, ◌+◌, ◌≤◌, ◌<◌, List, length, take, drop, refl, sym, ap, ap₂, ◌∙◌, add-one, arith}
+use Rattle.std.specs.Prelude.{true, ltb, Some, None}
+use Rattle.std.specs.declared.option.Option.{Option as Maybe}
+use Rattle.std.proofs.Math.Option.{Option, some}
+use Rattle.std.proofs.Math.Seq.{take-append_seam}
 use borrow.Author.Tests.{ltb-true, ltb-false}
 use Rattle.rules.specs.Octets.{front}
 use Rattle.rules.specs.Packets.{Message, Gathering, Step, size_right, completes, gathers, gather}
 use Rattle.rules.specs.Cutting.{avdtp, count_of, packet_at}
 use Rattle.rules.specs.Host.{Cut, cut_call}
 use Rattle.rules.specs.Saved.{gathering_in, store_gathering}
+use Rattle.rules.specs.declared.Header.{Header}
 use Rattle.rules.specs.declared.Piece.{Piece}
-use Rattle.rules.proofs.Tests.{Told?, passed, failed, told, clash}
+use Rattle.rules.proofs.Tests.{Told?, passed, failed, told as tested}
 use Rattle.rules.proofs.Pieces.{so_far, takes_single, takes_start, takes_next, takes_last}
 use Rattle.rules.proofs.ReadsBack.{HasRoom, counts, count_small, packets_fit, gather_packet}
 use Rattle.rules.proofs.RightMessages.{gather_right}
-use Rattle.octets.specs.Patch.{part}
 use Rattle.packets_next.specs.Rooms.{RoomRight}
 use Rattle.packets_next.proofs.Rooms.{stored_read, room_kept}
 use Rattle.packets_cut.proofs.Cutter.{Numbered, cuts}
@@ -35,9 +30,8 @@ pub record Written (p : Piece) (packet area after : List ℕ) : Type 0 where
   pub octets : after ≡ front packet area
 
 -- the message that `echo` is asked to cut
-abbrev pub message_of : ℕ → ℕ → ℕ → List ℕ → Message
-message_of label mtype signal payload =
-    record { header = record { label = label; mtype = mtype; signal = signal }; payload = payload }
+abbrev pub message_of : Header → List ℕ → Message
+message_of header payload = record { header = header; payload = payload }
 
 -- a whole message: what `echo` asks
 pub record Whole (size : ℕ) (m : Message) : Type 0 where
@@ -46,14 +40,11 @@ pub record Whole (size : ℕ) (m : Message) : Type 0 where
   pub room : HasRoom m
   pub short : length m.payload ≤ 512
 
-part_front : (s d : List ℕ) → part 0 (length s) (front s d) ≡ s
-unfolding part front
-part_front s d = take-append_seam s (drop (length s) d)
-
 -- lent as long as it is, it is read as it was written
-pub lent : (p : Piece) (packet area after q : List ℕ) → Written p packet area after → q ≡ part 0 p.length after → q ≡ packet
-lent p packet area after q w e =
-    e ∙ ap₂ (λ (n : ℕ) (l : List ℕ). part 0 n l) w.size w.octets ∙ part_front packet area
+pub lent : (p : Piece) (packet area after : List ℕ) → Written p packet area after → take p.length after ≡ packet
+unfolding front
+lent p packet area after w =
+    ap₂ (λ (n : ℕ) (l : List ℕ). take n l) w.size w.octets ∙ take-append_seam packet (drop (length packet) area)
 
 module _ {size : ℕ} {m : Message} (w : Whole size m) where
   pub some_packet : 0 < count_of size m
@@ -101,7 +92,7 @@ module _ {size : ℕ} {m : Message} (w : Whole size m) where
 
 -- the message is back
 pub record Back (m : Message) (e : Echoed) (message after : List ℕ) : Type 0 where
-  pub echoed : e ≡ record { done = true; header = m.header; length = length m.payload }
+  pub echoed : e ≡ record { header = m.header; length = length m.payload }
   pub written : after ≡ front m.payload message
 
 -- or packet number k is owed
@@ -111,8 +102,8 @@ pub record Owed (size : ℕ) (m : Message) (k : ℕ) (room : List ℕ) : Type 0 
   pub reached : Reached size m (gathering_in room) k
 
 module _ {size : ℕ} {m : Message} {k : ℕ} {room : List ℕ} (w : Whole size m) (o : Owed size m k room) (packet : List ℕ)
-    (is_packet : packet ≡ packet_at size m k) (e : Echoed) (left message after : List ℕ)
-    (is_echoed : e ≡ echoed_of (gather size (gathering_in room) packet).done)
+    (is_packet : packet ≡ packet_at size m k) (told : Maybe Echoed) (left message after : List ℕ)
+    (is_told : told ≡ echoed_of (gather size (gathering_in room) packet).done)
     (is_left : left ≡ store_gathering (gather size (gathering_in room) packet).gathering room)
     (is_after : after ≡ payload_on (gather size (gathering_in room) packet).done message) where
   last : suc k ≡ count_of size m → gather size (gathering_in room) packet ≡ completes m
@@ -122,24 +113,27 @@ module _ {size : ℕ} {m : Message} {k : ℕ} {room : List ℕ} (w : Whole size 
       → gather size (gathering_in room) packet ≡ gathers (so_far avdtp size (count_of size m) m (suc k))
   not_last l = ap (gather size (gathering_in room)) is_packet ∙ goes_on_lem w (gathering_in room) o.reached l
 
-  back : suc k ≡ count_of size m → Back m e message after
-  unfolding echoed_of payload_on completes
-  back l =
-      record {
-        echoed = is_echoed ∙ ap (λ (s : Step). echoed_of s.done) (last l);
-        written = is_after ∙ ap (λ (s : Step). payload_on s.done message) (last l);
-      }
+  some_told : suc k ≡ count_of size m → told ≡ Some (record { header = m.header; length = length m.payload })
+  unfolding echoed_of completes
+  some_told l = is_told ∙ ap (λ (s : Step). echoed_of s.done) (last l)
 
-  not_done : suc k < count_of size m → e.done ≡ false
+  back_written : suc k ≡ count_of size m → after ≡ front m.payload message
+  unfolding payload_on completes
+  back_written l = is_after ∙ ap (λ (s : Step). payload_on s.done message) (last l)
+
+  none_told : suc k < count_of size m → told ≡ None
   unfolding echoed_of gathers
-  not_done l = ap (λ (x : Echoed). x.done) (is_echoed ∙ ap (λ (s : Step). echoed_of s.done) (not_last l))
+  none_told l = is_told ∙ ap (λ (s : Step). echoed_of s.done) (not_last l)
 
-  pub turn_done : e.done ≡ true → Back m e message after
-  turn_done d = go (told (ltb (suc k) (count_of size m)))
+  pub turn_done : (e : Echoed) → told ≡ Some e → Back m e message after
+  turn_done e d = go (tested (ltb (suc k) (count_of size m)))
     where
       go : Told? (ltb (suc k) (count_of size m)) → Back m e message after
-      go (passed t) = clash d (not_done (ltb-true (suc k) (count_of size m) t))
-      go (failed t) = back (omega (arith, o.below, ltb-false (suc k) (count_of size m) t))
+      go (passed t) = let n = none_told (ltb-true (suc k) (count_of size m) t) in cc
+      go (failed t) =
+          let l : suc k ≡ count_of size m = omega (arith, o.below, ltb-false (suc k) (count_of size m) t) in
+          let s = some_told l in
+          record { echoed = cc; written = back_written l }
 
   owed : suc k < count_of size m → Owed size m (k + 1) left
   unfolding gathers
@@ -159,10 +153,10 @@ module _ {size : ℕ} {m : Message} {k : ℕ} {room : List ℕ} (w : Whole size 
   unfolding payload_on gathers
   same_message l = is_after ∙ ap (λ (s : Step). payload_on s.done message) (not_last l)
 
-  pub turn_on : e.done ≡ false → Owed size m (k + 1) left × (after ≡ message)
-  turn_on d = go (told (ltb (suc k) (count_of size m)))
+  pub turn_on : told ≡ None → Owed size m (k + 1) left × (after ≡ message)
+  turn_on d = go (tested (ltb (suc k) (count_of size m)))
     where
       go : Told? (ltb (suc k) (count_of size m)) → Owed size m (k + 1) left × (after ≡ message)
       go (passed t) = let l = ltb-true (suc k) (count_of size m) t in (owed l, same_message l)
       go (failed t) =
-          clash (ap (λ (x : Echoed). x.done) (back (omega (arith, o.below, ltb-false (suc k) (count_of size m) t))).echoed) d
+          let s = some_told (omega (arith, o.below, ltb-false (suc k) (count_of size m) t)) in cc

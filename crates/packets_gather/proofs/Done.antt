@@ -5,11 +5,9 @@ use Prim.Native.Nat.{ℕ, ◌+◌, ◌≤◌}
 use native.Mathlib.Omega.{arith}
 use mathlib.Core.Path.{◌≡◌, refl, sym, ap, ◌∙◌}
 use mathlib.Core.List.{List, [], ◌∷◌, ◌++◌}
-use mathlib.Core.Logic.{⊎_elim}
+use mathlib.Core.Logic.{◌⊎◌, inl, inr}
 use mathlib.Core.Option.{Option, none, some}
 use lib.ListN.{length, drop, get_or}
-use denote.Enum.Declared.{tag_of}
-use types.Run.{OneOf}
 use Rattle.rules.specs.Octets.{front}
 use Rattle.rules.specs.Packets.{Message, Gathering, extended, gather}
 use Rattle.rules.specs.Saved.{gathering_room, gathering_at, gathering_in, store_gathering, payload_length_in}
@@ -17,7 +15,6 @@ use Rattle.rules.specs.declared.Header.{Header}
 use Rattle.packets_next.specs.Nexts.{next_of, done_by}
 use Rattle.packets_next.specs.declared.nexts.Next.{Next}
 use Rattle.packets_next.specs.declared.nexts.Next.TheVariants.{Ended, Single, Begun, Grown, Complete}
-use Rattle.packets_next.specs.contracts.nexts.Next.{the_type}
 use Rattle.packets_next.specs.Rooms.{RoomRight}
 use Rattle.packets_next.proofs.Steps.{RoomTells, room_told}
 use Rattle.packets_next.proofs.Rooms.{marked, room_kept}
@@ -67,21 +64,6 @@ module _ (size : ℕ) (room p : List ℕ) where
     gathered_kept : (h : Header) → RoomTells size room p (Complete h) → gathering_at (room_after size room p) ≡ gathering_at room
     gathered_kept h told = ap gathering_at (left h told) ∙ mark_gone room (omega (arith, right.long))
 
-    done_kept : (r : Next) → RoomTells size room p r
-        → done_by r (gathering_at room) p ≡ done_by r (gathering_at (room_after size room p)) p
-    unfolding done_by
-    done_kept Ended told = refl
-    done_kept (Single h) told = refl
-    done_kept Begun told = refl
-    done_kept Grown told = refl
-    done_kept (Complete h) told =
-        ap (λ (g : Gathering). some (extended g.message (drop 1 p))) (sym (gathered_kept h told))
-
-    -- and by what is left in the room behind it
-    pub done_after : (gather size (gathering_in room) p).done
-        ≡ done_by (next_of size (gathering_in room) p) (gathering_at (room_after size room p)) p
-    done_after = done_before ∙ done_kept (next_of size (gathering_in room) p) (room_told size room p _ refl)
-
     pub assembled : (h : Header) → next_of size (gathering_in room) p ≡ Complete h
         → Assembled h p (room_after size room p) (gather size (gathering_in room) p).done
     unfolding extended
@@ -101,12 +83,9 @@ module _ (size : ℕ) (room p : List ℕ) where
         }
 
 -- what is neither a message in one packet nor the last part of one completes none
-pub none_done : (size : ℕ) (room p : List ℕ) (r : Next) → OneOf (0 ∷ 2 ∷ 3 ∷ []) (tag_of the_type r) → RoomTells size room p r
-    → (gather size (gathering_in room) p).done ≡ none
-none_done size room p Ended k t = t.done
-none_done size room p (Single h) k t =
-    absurd (⊎_elim (eqb-false 1 0 refl) (⊎_elim (eqb-false 1 2 refl) (eqb-false 1 3 refl)) k)
-none_done size room p Begun k t = t.done
-none_done size room p Grown k t = t.done
-none_done size room p (Complete h) k t =
-    absurd (⊎_elim (eqb-false 4 0 refl) (⊎_elim (eqb-false 4 2 refl) (eqb-false 4 3 refl)) k)
+pub none_complete : (size : ℕ) (room p : List ℕ) (r : Next) → (r ≡ Ended) ⊎ ((r ≡ Begun) ⊎ (r ≡ Grown))
+    → r ≡ next_of size (gathering_in room) p → (gather size (gathering_in room) p).done ≡ none
+unfolding done_by
+none_complete size room p r (inl e) n = rw (done_before size room p, ← n, e)
+none_complete size room p r (inr (inl e)) n = rw (done_before size room p, ← n, e)
+none_complete size room p r (inr (inr e)) n = rw (done_before size room p, ← n, e)

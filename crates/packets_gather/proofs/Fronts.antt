@@ -1,6 +1,6 @@
 -- What a gathering's head and part come to in its room: each is written behind what stands at the front already, which makes the
 -- front longer, and a front that goes on with what stands there already changes nothing.
-use Prim.Native.Nat.{ℕ, ◌+◌, ◌/◌, ◌%◌, ◌≤◌, ◌<◌}
+use Prim.Native.Nat.{ℕ, ◌+◌, ◌/◌, ◌%◌, ◌≤◌}
 use native.Mathlib.Nat.{zero-add}
 use native.Mathlib.Numerals.{add-one}
 use native.Mathlib.Omega.{arith}
@@ -10,14 +10,13 @@ use mathlib.Core.Option.{some}
 use lib.ListN.{length, take, drop, get_or, length-append, length-drop, take-append-drop}
 use lib.Seq.{drop-drop, length-take-le, sets, sets-eq}
 use Rattle.rules.specs.Octets.{front}
-use Rattle.rules.specs.Packets.{message_from, extended, mtype_in, signal_in}
+use Rattle.rules.specs.Packets.{message_from, extended, label_in, mtype_in, signal_in}
 use Rattle.rules.specs.Saved.{gathering_room, gathering_at, gathering_head, store_gathering, payload_length_in}
 use Rattle.rules.proofs.SavedReads.{front_same, octets_from, octets_from_lem}
 use Rattle.octets.specs.Patch.{patch}
 use Rattle.octets.proofs.Patches.{front_more}
 use Rattle.packets_next.specs.Rooms.{begun, grown}
 use Rattle.packets_gather.specs.Parts.{with_part}
-use Rattle.packets_next.proofs.Headers.{label_in_lem}
 
 pub front_kept : (s d : List ℕ) (n : ℕ) → length s + n ≤ length d → front (s ++ take n (drop (length s) d)) d ≡ front s d
 unfolding front
@@ -60,15 +59,15 @@ with_part_lem five room part parts n e h =
 
 -- the first five octets of its head
 abbrev pub start_head : List ℕ → List ℕ
-start_head p = 1 ∷ get_or p 0 0 / 16 ∷ get_or p 0 0 % 4 ∷ get_or p 2 0 % 64 ∷ get_or p 1 0 ∷ []
+start_head p = 1 ∷ label_in (get_or p 0 0) ∷ mtype_in (get_or p 0 0) ∷ signal_in (get_or p 2 0) ∷ get_or p 1 0 ∷ []
 
-pub begun_stored : (room p part : List ℕ) → length room ≡ gathering_room → get_or p 0 0 < 256 → part ≡ drop 3 p
+pub begun_stored : (room p part : List ℕ) → length room ≡ gathering_room → part ≡ drop 3 p
     → with_part 1 0 part (sets room 0 (start_head p)) ≡ store_gathering (some (begun p)) room
-unfolding store_gathering gathering_head begun message_from mtype_in signal_in counted front
-begun_stored room p part long octet e =
+unfolding store_gathering gathering_head begun message_from counted front
+begun_stored room p part long e =
     ap₂ (with_part 1 0) e (sets-eq (start_head p) room 0 (omega arith))
     ∙ with_part_lem (start_head p) room (drop 3 p) 1 0 refl (omega arith)
-    ∙ rw (zero-add, label_in_lem (get_or p 0 0) octet)
+    ∙ rw zero-add
 
 -- ---- A gathering that goes on
 

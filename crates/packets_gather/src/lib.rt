@@ -1,5 +1,6 @@
 // One gathering step for every packet, over the room that the gathering is saved in. The octets of a part go straight into that
-// room, once; a message that is whole in one packet is not copied at all.
+// room, once; a message that is whole in one packet is not copied at all. The room stays a slice, though each function here asks
+// how long it is: it is lent to be written, and a ghost field beside a `&mut` has no proof.
 #![tactic(auto)]
 
 ghost use Rattle.std.specs.Prelude.{◌≡◌, ◌++◌, ◌+◌, ◌≤◌, ◌<◌, length, drop, get_or};
@@ -13,7 +14,7 @@ ghost use Rattle.packets_next.specs.Rooms.{RoomRight, begun, grown};
 ghost use Rattle.packets_gather.specs.Parts.{with_part};
 
 use packets_next::nexts::Next;
-use packets_next::{gathered, next};
+use packets_next::{gathered, header_in, next};
 use rules::layout::{LABEL, LENGTH_HIGH, LENGTH_LOW, MARK, MTYPE, PACKETS, PARTS, PAYLOAD, SIGNAL};
 
 // Writes a part behind what is gathered, and how many parts and octets there are then.
@@ -21,10 +22,8 @@ fn add_part(room: &mut [u8], parts: u8, before: usize, part: &[u8])
     requires { (length room.old ≡ gathering_room) × (before + length part.now ≤ 512) }
     ensures { room.new ≡ with_part parts before part.now room.old }
 {
-    let length = before + part.len();
     room[PARTS] = parts;
-    room[LENGTH_HIGH] = (length / 256) as u8;
-    room[LENGTH_LOW] = (length % 256) as u8;
+    [room[LENGTH_HIGH], room[LENGTH_LOW]] = ((before + part.len()) as u16).to_be_bytes();
     octets::put(room, PAYLOAD + before, part);
 }
 
@@ -34,10 +33,11 @@ fn begin(room: &mut [u8], packet: &[u8])
     requires packet_fits { (3 ≤ length packet.now) × (length (drop 3 packet.now) ≤ 512) }
     ensures { room.new ≡ store_gathering (some (begun packet.now)) room.old }
 {
+    let header = header_in(packet[0], packet[2]);
     room[MARK] = 1;
-    room[LABEL] = packet[0] / 16;
-    room[MTYPE] = packet[0] % 4;
-    room[SIGNAL] = packet[2] % 64;
+    room[LABEL] = header.label;
+    room[MTYPE] = header.mtype;
+    room[SIGNAL] = header.signal;
     room[PACKETS] = packet[1];
     add_part(room, 1, 0, &packet[3..]);
 }

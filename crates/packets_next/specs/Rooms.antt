@@ -4,7 +4,8 @@ use Rattle.rules.specs.Packets.{Gathering, message_from, extended}
 use Rattle.rules.specs.Endpoints.{legal_gathering}
 use Rattle.rules.specs.Saved.{gathering_room, gathering_in, gathering_octets_right}
 
--- It is as long as the layout says, its octets mean something, and the gathering in it is within its limits.
+-- It is as long as the layout says, its octets mean something, and the gathering in it is within its limits. A clause of the
+-- contracts and no type's fact: a gathering is written through a `&mut`, and a ghost field beside one gets no proof.
 pub record RoomRight (room : List ℕ) : Type 0 where
   pub long : length room ≡ gathering_room
   pub octets : gathering_octets_right room ≡ true

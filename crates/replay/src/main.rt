@@ -2,87 +2,84 @@
 // answer, or `line K not understood`; nothing ends the run but the end of the input, or an error of reading or writing.
 #![tactic(auto)]
 
-mod dispatch;
+mod failure;
 
-use crate::dispatch::{complain, run};
-use replay_answers::kept::Kept;
-use replay_answers::octs::front;
-use replay_input::{Reader, fewer, next};
-use replay_reading::LONG;
+use crate::failure::Failure;
+use replay_answers::records;
+use replay_answers::session::Session;
+use replay_input::{Input, Line};
+use replay_reading::odd::Odd;
+use replay_reading::steps::Step;
+use replay_reading::{Room, read};
 use replay_script::lines;
-use rules::layout::LONGEST;
+use replay_steps::{arrivals, books, events};
+use rules::Event;
 use std::io;
-use std::io::Read;
 
-// A line that was read: a step, nothing, or too long.
-fn finish(
-    rt: &impl Print,
-    k: usize,
-    line: &[u8],
-    length: usize,
-    kept: Kept,
-    book: &mut [u8],
-    saved: &mut [u8],
-) -> io::Result<Kept> {
-    if line.len() <= length {
-        complain(rt, kept.explains, k, LONG)?;
-        return Ok(kept);
-    }
-    let text = lines::step(front(line, length));
-    if text.len() == 0 {
-        return Ok(kept);
-    }
-    run(rt, k, text, kept, book, saved)
-}
-
-// All of the input, in turns that are counted down as those of a line are.
-fn replay(
-    rt: &impl Print,
-    source: &mut impl Read,
-    input: &mut [u8],
-    line: &mut [u8],
-    first: Kept,
-    book: &mut [u8],
-    saved: &mut [u8],
-) -> io::Result<()> {
-    let mut turns = u64::MAX;
-    let mut kept = first;
-    let mut at = Reader {
-        from: 0,
-        to: 0,
-        length: 0,
-        lines: 0,
-        open: true,
-        ended: false,
-    };
-    while turns > 0 {
-        at = next(source, input, line, at)?;
-        kept = finish(rt, at.lines, line, at.length, kept, book, saved)?;
-        turns = fewer(turns, at.ended);
+// What a step does and answers.
+fn take(rt: &impl Print, session: &mut Session, step: Step<'_>) -> Result<(), Failure> {
+    match step {
+        Step::Book(given) => books::book(rt, session, given)?,
+        Step::Rebook(given) => books::rebook(rt, session, given)?,
+        Step::Size(n) => session.size = usize::from(n),
+        Step::Area(n) => session.area = usize::from(n),
+        Step::Packet(packet) => arrivals::packet(rt, session, packet)?,
+        Step::Burst { octets, lengths } => replay_bursts::burst(rt, session, octets, lengths)?,
+        Step::Up => events::happen(rt, session, Event::Up)?,
+        Step::Down(seid) => events::happen(rt, session, Event::Down(seid))?,
+        Step::Lost => events::happen(rt, session, Event::Lost)?,
+        Step::Settings(seid) => replay_questions::settings(rt, session, seid)?,
+        Step::Delay(seid) => replay_questions::delay(rt, session, seid)?,
+        Step::Status(seid) => replay_questions::status(rt, session, seid)?,
+        Step::States => replay_questions::states(rt, session)?,
+        Step::Record(record) => record
+            .write(&mut session.saved, session.records)
+            .ok_or(Odd::Words)?,
+        Step::Count(n) => records::count(&mut session.saved, n),
+        Step::NoGathering => records::end_gathering(&mut session.saved),
+        Step::Gathering(gathering) => gathering.write(&mut session.saved),
+        Step::Cut(cut) => replay_questions::cut(rt, session, cut)?,
+        Step::Explain => session.explains = true,
     }
     Ok(())
 }
 
+// A line that was read: a step, nothing, or too long.
+fn answer(rt: &impl Print, session: &mut Session, line: &Line) -> Result<(), Failure> {
+    let text = lines::step(line.octets().ok_or(Odd::Long)?);
+    if text.is_empty() {
+        return Ok(());
+    }
+    let mut room = Room::new();
+    let step = read(text, session.is_booked(), &mut room)?;
+    take(rt, session, step)
+}
+
+// Line k: its answer, or that it was not understood.
+fn serve(rt: &impl Print, session: &mut Session, k: usize, line: &Line) -> io::Result<()> {
+    match answer(rt, session, line) {
+        Ok(()) => Ok(()),
+        Err(Failure::Output(error)) => Err(error),
+        Err(Failure::Line(why)) => {
+            println!(rt; "line {k} not understood")?;
+            if session.explains {
+                println!(rt; "# {why}")?;
+            }
+            Ok(())
+        }
+    }
+}
+
+// All of the input, in turns as those of a line are (`Input::next`).
 fn main(rt: HostRuntime) -> io::Result<()> {
-    let mut input = [0u8; 16384];
-    let mut line = [0u8; 8192];
-    let mut book = [0u8; 2730];
-    let mut saved = [0u8; LONGEST];
-    let kept = Kept {
-        book: 0,
-        records: 0,
-        size: 672,
-        area: 64,
-        explains: false,
-    };
-    let mut source = rt.stdin();
-    replay(
-        &rt,
-        &mut source,
-        &mut input,
-        &mut line,
-        kept,
-        &mut book,
-        &mut saved,
-    )
+    let mut session = Session::new();
+    let mut input = Input::new(rt.stdin());
+    let mut line = Line::new();
+    for k in 1..usize::MAX {
+        if !input.next(&mut line)? {
+            break;
+        }
+        serve(&rt, &mut session, k, &line)?;
+    }
+    Ok(())
 }

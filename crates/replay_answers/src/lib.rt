@@ -1,7 +1,6 @@
-// The answers of a script: how they are written, and how saved records are shown and overwritten.
+// What the program keeps between lines, and how its answers are written.
 #![tactic(auto)]
 
-pub mod kept;
-pub mod octs;
 pub mod records;
 pub mod says;
+pub mod session;

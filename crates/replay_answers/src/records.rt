@@ -1,168 +1,186 @@
-// The saved records as a script shows and writes them (docs/SAVED.md draws the layout).
-ghost use Rattle.std.specs.Prelude.{◌≤◌};
+// What is saved, as a script shows and writes it (docs/SAVED.md draws the layout).
+ghost use Rattle.std.specs.Prelude.{◌≡◌};
+ghost use Rattle.std.specs.Slice.Iter.{chunks_exact_size};
 
-use crate::octs::{front, lay, octet, pair};
-use crate::says::{fill, phrase, say, say_octets};
-use replay_script::lines::rest;
-use replay_script::numbers::{DASH, wide};
+use crate::says::{ChannelName, Joined, StateName};
 use rules::layout::{
-    CHANNEL, CONFIG_LENGTH, COUNT, DELAY_HIGH, DELAY_LOW, DELAY_MARK, ENDPOINTS, FAR, HEAD, LABEL,
-    LENGTH_HIGH, LENGTH_LOW, LINK, MARK, MTYPE, PACKETS, PARTS, PAYLOAD, RECORD, RECORDS, SEID,
-    SIGNAL, STATE, UNUSED,
+    COUNT, COUNT_PLACE, HEAD, LINK_MARK, LONGEST, PAYLOAD, RECORD, RECORDS, STATE,
 };
-use std::io;
+use std::fmt;
+use std::slice::ChunksExact;
 
-// The place of record i; behind every area where a connection cannot have it.
-fn place(i: usize) -> usize
-    ensures { result ≤ 65536 }
-{
-    if ENDPOINTS <= i {
-        return 65536;
+// The area in which the bridge saves a connection.
+pub type Saved = [u8; LONGEST];
+
+// A saved record. Its octets for a state and a channel have a name each.
+#[derive(Clone, Copy)]
+pub struct Record<'a> {
+    pub seid: u8,
+    pub state: StateName,
+    pub channel: ChannelName,
+    pub far: u8,
+    pub delay: Option<u16>,
+    pub config: &'a [u8],
+}
+
+impl<'a> Record<'a> {
+    // The record in the octets of one, if they are so many.
+    pub fn read(slot: &'a [u8]) -> Option<Record<'a>> {
+        let (head, room) = slot.split_at_checked(HEAD)?;
+        let [seid, state, channel, far, mark, high, low, length, ..] = head else {
+            return None;
+        };
+        Some(Record {
+            seid: *seid,
+            state: StateName(*state),
+            channel: ChannelName(*channel),
+            far: *far,
+            delay: (*mark != 0).then_some(u16::from_be_bytes([*high, *low])),
+            config: room.get(..usize::from(*length)).unwrap_or(&[]),
+        })
     }
-    RECORDS + RECORD * i
-}
 
-// The link part, which holds the gathering.
-pub fn link(saved: &[u8]) -> &[u8] {
-    front(rest(saved, COUNT), LINK)
-}
-
-// Record i, empty where the area does not have it.
-pub fn record(saved: &[u8], i: usize) -> &[u8] {
-    front(rest(saved, place(i)), RECORD)
-}
-
-// Whether a record is there and has this SEID.
-fn has(slot: &[u8], seid: u8) -> bool {
-    if slot.len() != RECORD {
-        return false;
-    }
-    slot[SEID] == seid
-}
-
-// The index of the record of a SEID among the first `records`; ENDPOINTS where there is none.
-pub fn find(saved: &[u8], records: usize, seid: u8) -> usize {
-    let mut i = 0;
-    while i < records {
-        if has(record(saved, i), seid) {
-            return i;
+    // Overwrites the record of this SEID from its state on, if one of the first `records` has it.
+    pub fn write(&self, saved: &mut Saved, records: usize) -> Option<()> {
+        let [high, low] = self.delay.unwrap_or(0).to_be_bytes();
+        let [.., length] = self.config.len().to_be_bytes();
+        let head = [
+            self.state.0,
+            self.channel.0,
+            self.far,
+            u8::from(self.delay.is_some()),
+            high,
+            low,
+            length,
+        ];
+        for slot in saved[RECORDS..].chunks_exact_mut(RECORD).take(records) {
+            if slot.first() == Some(&self.seid) {
+                lay(slot, STATE, &head);
+                lay(slot, HEAD, self.config);
+                return Some(());
+            }
         }
-        i += 1;
+        None
     }
-    ENDPOINTS
 }
 
-// The configuration of a record.
-pub fn config(slot: &[u8]) -> &[u8] {
-    if slot.len() != RECORD {
-        return &slot[0..0];
+// The octets of all records, in one piece for each.
+pub fn slots(saved: &Saved) -> ChunksExact<'_, u8>
+    ensures { chunks_exact_size result ≡ RECORD }
+{
+    saved[RECORDS..].chunks_exact(RECORD)
+}
+
+// SEID STATE CHANNEL FAR DELAY CONFIG
+impl fmt::Display for Record<'_> {
+    fn fmt<W: fmt::Write>(&self, f: &mut fmt::Formatter<W>) -> fmt::Result {
+        write!(
+            f,
+            "{} {} {} {} ",
+            self.seid, self.state, self.channel, self.far
+        )?;
+        match self.delay {
+            Some(tenths) => write!(f, "{tenths} ")?,
+            None => write!(f, "- ")?,
+        }
+        if self.config.is_empty() {
+            return write!(f, "-");
+        }
+        write!(f, "{}", Joined(self.config))
     }
-    front(&slot[HEAD..RECORD], wide(slot[CONFIG_LENGTH]))
 }
 
-// The names of a state and of a channel.
-pub fn say_names(rt: &impl Print, state: u8, channel: u8) -> io::Result<()> {
-    phrase(
-        rt,
-        b"\x00: idle\n\x01: configured\n\x02: open\n\x03: streaming\n\x04: closing\n\x05: aborting\n",
-        state,
-        0,
-        0,
-    )?;
-    phrase(rt, b"\x00: none\n\x01: awaited\n\x02: up\n", channel, 0, 0)
-}
-
-fn say_delay(rt: &impl Print, mark: u8, tenths: usize) -> io::Result<()> {
-    if mark == 0 {
-        return say(rt, b"-");
+// Lays octets into an area at a place, if they fit.
+fn lay(area: &mut [u8], at: usize, octets: &[u8]) {
+    let Some(end) = at.checked_add(octets.len()) else {
+        return;
+    };
+    if let Some(part) = area.get_mut(at..end) {
+        part.copy_from_slice(octets);
     }
-    fill(rt, b"$", tenths, 0)
 }
 
-fn say_config(rt: &impl Print, config: &[u8]) -> io::Result<()> {
-    if config.len() == 0 {
-        return say(rt, b" -\n");
+// What is being gathered: a message of several packets of which not all have come.
+#[derive(Clone, Copy)]
+pub struct Gathering<'a> {
+    pub label: u8,
+    pub mtype: u8,
+    pub signal: u8,
+    pub packets: u8,
+    pub parts: u8,
+    pub payload: &'a [u8],
+}
+
+impl<'a> Gathering<'a> {
+    // What is being gathered, if anything is.
+    pub fn read(saved: &'a Saved) -> Option<Gathering<'a>> {
+        let link = &saved[COUNT..RECORDS];
+        let [
+            mark,
+            label,
+            mtype,
+            signal,
+            packets,
+            parts,
+            high,
+            low,
+            room @ ..,
+        ] = link
+        else {
+            return None;
+        };
+        if *mark == 0 {
+            return None;
+        }
+        let length = u16::from_be_bytes([*high, *low]);
+        Some(Gathering {
+            label: *label,
+            mtype: *mtype,
+            signal: *signal,
+            packets: *packets,
+            parts: *parts,
+            payload: room.get(..usize::from(length)).unwrap_or(&[]),
+        })
     }
-    say(rt, b" ")?;
-    say_octets(rt, false, config)?;
-    say(rt, b"\n")
-}
 
-// One record: SEID STATE CHANNEL FAR DELAY CONFIG.
-fn show(rt: &impl Print, slot: &[u8]) -> io::Result<()> {
-    if slot.len() != RECORD {
-        return Ok(());
+    // Overwrites what is being gathered.
+    pub fn write(&self, saved: &mut Saved) {
+        let [.., high, low] = self.payload.len().to_be_bytes();
+        lay(
+            saved,
+            COUNT,
+            &[
+                1,
+                self.label,
+                self.mtype,
+                self.signal,
+                self.packets,
+                self.parts,
+                high,
+                low,
+            ],
+        );
+        lay(saved, COUNT + PAYLOAD, self.payload);
     }
-    fill(rt, b"$", wide(slot[SEID]), 0)?;
-    say_names(rt, slot[STATE], slot[CHANNEL])?;
-    fill(rt, b" $ ", wide(slot[FAR]), 0)?;
-    say_delay(
-        rt,
-        slot[DELAY_MARK],
-        pair(slot[DELAY_HIGH], slot[DELAY_LOW]),
-    )?;
-    say_config(rt, config(slot))
 }
 
-pub fn show_all(rt: &impl Print, saved: &[u8], records: usize) -> io::Result<()> {
-    let mut i = 0;
-    while i < records {
-        show(rt, record(saved, i))?;
-        i += 1;
+impl fmt::Display for Gathering<'_> {
+    fn fmt<W: fmt::Write>(&self, f: &mut fmt::Formatter<W>) -> fmt::Result {
+        write!(
+            f,
+            "part {} of {} of the message with label {}; ",
+            self.parts, self.packets, self.label
+        )?;
+        write!(f, "{} octets of payload so far", self.payload.len())
     }
-    Ok(())
 }
 
-// A delay as it is saved: whether there is one, and its tenths.
-fn marked(delay: usize) -> u8 {
-    if delay == DASH {
-        return 0;
-    }
-    1
+// Overwrites the mark of a gathering: nothing is being gathered.
+pub fn end_gathering(saved: &mut Saved) {
+    saved[LINK_MARK] = 0;
 }
 
-fn tenths(delay: usize) -> usize {
-    if delay == DASH {
-        return 0;
-    }
-    delay
-}
-
-// Overwrites record i from its state on; a dash stands for no delay.
-pub fn write(
-    saved: &mut [u8],
-    i: usize,
-    state: usize,
-    channel: usize,
-    far: usize,
-    delay: usize,
-    config: &[u8],
-) {
-    let at = place(i);
-    let mut head = [0u8; UNUSED];
-    head[STATE] = octet(state);
-    head[CHANNEL] = octet(channel);
-    head[FAR] = octet(far);
-    head[DELAY_MARK] = marked(delay);
-    head[DELAY_HIGH] = octet(tenths(delay) / 256);
-    head[DELAY_LOW] = octet(tenths(delay));
-    head[CONFIG_LENGTH] = octet(config.len());
-    lay(saved, at + STATE, &head[STATE..]);
-    lay(saved, at + HEAD, config);
-}
-
-// Overwrites the gathering: its label, message type, signal, count and parts, and its payload.
-pub fn write_gathering(saved: &mut [u8], numbers: [usize; 6], payload: &[u8]) {
-    let length = payload.len();
-    let mut head = [0u8; PAYLOAD];
-    head[MARK] = 1;
-    head[LABEL] = octet(numbers[0]);
-    head[MTYPE] = octet(numbers[1]);
-    head[SIGNAL] = octet(numbers[2]);
-    head[PACKETS] = octet(numbers[3]);
-    head[PARTS] = octet(numbers[4]);
-    head[LENGTH_HIGH] = octet(length / 256);
-    head[LENGTH_LOW] = octet(length);
-    lay(saved, COUNT, &head);
-    lay(saved, COUNT + PAYLOAD, payload);
+// Overwrites the number of records.
+pub fn count(saved: &mut Saved, records: u8) {
+    saved[COUNT_PLACE] = records;
 }

@@ -1,5 +1,6 @@
 -- Octets in hexadecimal.
-use Rattle.std.specs.Prelude.{ℕ, zero, suc, ◌+◌, ◌-◌, ◌*◌, ◌/◌, ◌%◌, List, [], ◌∷◌, ◌++◌, Bool, true, false, ◌&&◌, not, length, get_or, eqb, ltb, leb, if◌then◌else◌}
+use Rattle.std.specs.Prelude.{ℕ, zero, suc, ◌+◌, ◌-◌, ◌*◌, ◌/◌, ◌%◌, List, [], ◌∷◌, ◌++◌, Bool, true, false, ◌&&◌, not, length}
+use Rattle.std.specs.Prelude.{get_or, eqb, ltb, leb, if◌then◌else◌}
 use Rattle.octets.specs.Patch.{patch}
 use Rattle.replay_script.specs.Numbers.{none}
 

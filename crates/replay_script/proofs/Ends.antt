@@ -1,9 +1,5 @@
 -- Behind the end of a list nothing is left.
-use Prim.Native.Nat.{ℕ, zero, suc, ◌≤◌}
-use mathlib.Core.Path.{◌≡◌}
-use mathlib.Core.List.{List, [], ◌∷◌}
-use native.Mathlib.Omega.{arith}
-use lib.ListN.{length, drop}
+use Rattle.std.proofs.Common.{ℕ, zero, suc, ◌≤◌, ◌≡◌, List, [], ◌∷◌, length, drop, arith}
 use lib.Seq.{drop-nil}
 
 pub drop_past : (n : ℕ) (l : List ℕ) → length l ≤ n → drop n l ≡ []

@@ -1,31 +1,15 @@
--- What is found in a list lies within it.
-use Prim.Native.Nat.{ℕ, zero, suc, ◌≤◌}
-use mathlib.Core.List.{List, [], ◌∷◌}
-use mathlib.Core.Bool.{Bool, true, false}
-use native.Mathlib.Omega.{arith}
-use lib.ListN.{length, get_or}
-use lib.Dec.{eqb}
-use Rattle.std.specs.Prelude.{if◌then◌else◌}
-use Rattle.replay_script.specs.Lines.{first_of, is_blank, kept_from, kept_of}
+-- Where something is found in a list, or its end.
+use Rattle.std.proofs.Common.{ℕ, ◌≡◌, ◌≤◌, ◌∙◌, ap, sym, List, length, Bool, not, cond, Some, None, unwrap_or, position, arith}
+use Rattle.std.proofs.Common.{ltb, reverse}
+use Rattle.std.specs.List.{position_or_len}
+use Rattle.std.proofs.lemmas.List.Sums.{prefix_len-le-length}
+use Rattle.std.proofs.lemmas.List.{length-reverse}
 
-pub first_within : (c : ℕ) (s : List ℕ) → first_of c s ≤ length s
-unfolding first_of
-first_within c [] = omega arith
-first_within c (x ∷ s) = go (eqb x c) (first_within c s)
-  where
-    go : (t : Bool) → first_of c s ≤ length s → (if t then 0 else suc (first_of c s)) ≤ length (x ∷ s)
-    go true h = omega arith
-    go false h = omega arith
+or_end : (n l : ℕ) → n ≤ l → unwrap_or (cond (ltb n l) (Some n) None) l ≡ n
+or_end n l h = grind arith
 
-kept_from_within : (s : List ℕ) (n : ℕ) → kept_from s n ≤ n
-unfolding kept_from
-kept_from_within s zero = omega arith
-kept_from_within s (suc n) = go (is_blank (get_or s n 0)) (kept_from_within s n)
-  where
-    go : (t : Bool) → kept_from s n ≤ n → (if t then kept_from s n else suc n) ≤ suc n
-    go true h = omega arith
-    go false h = omega arith
+pub found_or_end : (p : ℕ → Bool) (s : List ℕ) → unwrap_or (position p s) (length s) ≡ position_or_len p s
+found_or_end p s = or_end (position_or_len p s) (length s) (prefix_len-le-length (λ x. not (p x)) s)
 
-pub kept_within : (s : List ℕ) → kept_of s ≤ length s
-unfolding kept_of
-kept_within s = kept_from_within s (length s)
+pub found_from_end : (p : ℕ → Bool) (s : List ℕ) → unwrap_or (position p (reverse s)) (length s) ≡ position_or_len p (reverse s)
+found_from_end p s = ap (λ (n : ℕ). unwrap_or (position p (reverse s)) n) (sym (length-reverse s)) ∙ found_or_end p (reverse s)

@@ -1,10 +1,10 @@
 -- A line of a script: its step, and the words of a step.
-use Rattle.std.specs.Prelude.{ℕ, zero, suc, ◌+◌, ◌-◌, List, [], ◌∷◌, Bool, ◌||◌, length, take, drop, get_or, eqb, ltb, if◌then◌else◌}
+use Rattle.std.specs.Prelude.{ℕ, ◌+◌, ◌-◌, List, Bool, ◌||◌, not, length, take, drop, eqb, ltb, reverse, if◌then◌else◌}
+use Rattle.std.specs.List.{position_or_len}
 
--- where the first c stands
+-- where the first c stands, the length where there is none
 unfoldable pub first_of : ℕ → List ℕ → ℕ
-first_of c [] = 0
-first_of c (x ∷ xs) = if eqb x c then 0 else suc (first_of c xs)
+first_of c s = position_or_len (λ x. eqb x c) s
 
 -- blank, tab, carriage return
 unfoldable pub is_blank : ℕ → Bool
@@ -12,19 +12,14 @@ is_blank x = eqb x 32 || (eqb x 9 || eqb x 13)
 
 -- how many blanks stand in front
 unfoldable pub blanks_of : List ℕ → ℕ
-blanks_of [] = 0
-blanks_of (x ∷ xs) = if is_blank x then suc (blanks_of xs) else 0
+blanks_of s = position_or_len (λ x. not (is_blank x)) s
 
--- how many of the first n octets are left without the blanks behind
-unfoldable pub kept_from : List ℕ → ℕ → ℕ
-kept_from s zero = 0
-kept_from s (suc n) = if is_blank (get_or s n 0) then kept_from s n else suc n
-
+-- how many octets are left without the blanks behind
 unfoldable pub kept_of : List ℕ → ℕ
-kept_of s = kept_from s (length s)
+kept_of s = length s - position_or_len (λ x. not (is_blank x)) (reverse s)
 
 unfoldable pub trimmed : List ℕ → List ℕ
-trimmed s = take (kept_of s - blanks_of s) (drop (blanks_of s) s)
+trimmed s = drop (blanks_of s) (take (kept_of s) s)
 
 -- what stands before a comment (35), without the blanks at its ends
 unfoldable pub step_in : List ℕ → List ℕ

@@ -1,9 +1,13 @@
 -- Decimal numbers up to a limit.
-use Rattle.std.specs.Prelude.{ℕ, ◌+◌, ◌-◌, ◌*◌, List, [], ◌∷◌, ltb, if◌then◌else◌}
+use Rattle.std.specs.Prelude.{ℕ, ◌+◌, ◌-◌, ◌*◌, List, [], ◌∷◌, Option, unwrap_or, ltb, if◌then◌else◌}
 
 -- what stands for no number
 abbrev pub none : ℕ
 none = 65536
+
+-- a number that may be none
+abbrev pub or_none : Option ℕ → ℕ
+or_none o = unwrap_or o none
 
 -- the number so far with one more digit
 abbrev pub longer : ℕ → ℕ → ℕ

@@ -1,11 +1,12 @@
 // The names of steps, states and channels.
 ghost use Rattle.std.specs.Prelude.{◌≡◌};
 ghost use Rattle.replay_script.specs.Names.{step_of, state_of, channel_of};
+ghost use Rattle.replay_script.specs.Numbers.{or_none};
 
 use crate::tables::value;
 
-// The steps. Under a step's name stand its letter, by which `replay` finds its function; `+` where it needs a book, `-` where
-// not; then letters of `reading`: one for what stands at its end, and one for each word before that. A name may have several
+// The steps. Under a step's name stand its letter, by which `replay_reading` makes the step; `+` where it needs a book, `-` where
+// not; then letters of the same crate: one for what stands at its end, and one for each word before that. A name may have several
 // words.
 pub const STEPS: [u8; 226] = *b"book:b-*\n\
     rebook:r+*\n\
@@ -27,27 +28,35 @@ pub const STEPS: [u8; 226] = *b"book:b-*\n\
     cut:c-*nooonn\n\
     explain:x-.\n";
 
-// The letter of a step, NONE where no step has the name.
-pub fn step(name: &[u8]) -> usize
-    ensures { result ≡ step_of name.now }
+// The states and the channels, each with the octet that stands for it in a saved record.
+pub const STATES: [u8; 60] = *b"idle:\x00\n\
+    configured:\x01\n\
+    open:\x02\n\
+    streaming:\x03\n\
+    closing:\x04\n\
+    aborting:\x05\n";
+
+pub const CHANNELS: [u8; 22] = *b"none:\x00\n\
+    awaited:\x01\n\
+    up:\x02\n";
+
+// The letter of a step, if a step has the name.
+pub fn step(name: &[u8]) -> Option<u8>
+    ensures { or_none result ≡ step_of name.now }
 {
-    let table = STEPS;
-    value(&table, name)
+    value(&STEPS, name)
 }
 
-// The octet of a state, NONE where the word names none.
-pub fn state(word: &[u8]) -> usize
-    ensures { result ≡ state_of word.now }
+// The octet of a state, if the word names one.
+pub fn state(word: &[u8]) -> Option<u8>
+    ensures { or_none result ≡ state_of word.now }
 {
-    value(
-        b"idle:\x00\nconfigured:\x01\nopen:\x02\nstreaming:\x03\nclosing:\x04\naborting:\x05\n",
-        word,
-    )
+    value(&STATES, word)
 }
 
-// The octet of a channel, NONE where the word names none.
-pub fn channel(word: &[u8]) -> usize
-    ensures { result ≡ channel_of word.now }
+// The octet of a channel, if the word names one.
+pub fn channel(word: &[u8]) -> Option<u8>
+    ensures { or_none result ≡ channel_of word.now }
 {
-    value(b"none:\x00\nawaited:\x01\nup:\x02\n", word)
+    value(&CHANNELS, word)
 }

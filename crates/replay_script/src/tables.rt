@@ -1,9 +1,9 @@
 // A table is text in one piece: lines, each a name, a colon and what is said under that name.
 ghost use Rattle.std.specs.Prelude.{◌≡◌, true};
+ghost use Rattle.replay_script.specs.Numbers.{or_none};
 ghost use Rattle.replay_script.specs.Tables.{named_of, word_said, value_of};
 
 use crate::lines::{part, rest};
-use crate::numbers::{NONE, wide};
 
 // The place of the first line of a name; the length where there is none.
 #[tactic(auto, unfolding(crate::specs::Tables::named_of, crate::specs::Lines::part_at))]
@@ -11,17 +11,13 @@ fn named(table: &[u8], name: &[u8]) -> usize
     ensures { result ≡ named_of name.now true table.now }
 {
     let mut starts = true;
-    let mut i = 0;
-    while i < table.len() {
-        if starts {
-            if octets::same(part(table, i, b':'), name) {
-                return i;
-            }
+    for (i, octet) in table.iter().enumerate() {
+        if starts && octets::same(part(table, i, b':'), name) {
+            return i;
         }
-        starts = table[i] == 10;
-        i += 1;
+        starts = *octet == b'\n';
     }
-    i
+    table.len()
 }
 
 // What is said under a name; nothing where the table does not have it.
@@ -29,18 +25,14 @@ fn named(table: &[u8], name: &[u8]) -> usize
 pub fn said<'a>(table: &'a [u8], name: &[u8]) -> &'a [u8]
     ensures { result.now ≡ word_said name.now table.now }
 {
-    let line = part(table, named(table, name), 10);
+    let line = part(table, named(table, name), b'\n');
     rest(line, name.len() + 1)
 }
 
-// The octet that is said under a name; NONE where the table does not have it.
+// The octet that is said under a name, if the table has it.
 #[tactic(auto, unfolding(crate::specs::Tables::value_of, crate::specs::Tables::front_of))]
-pub fn value(table: &[u8], name: &[u8]) -> usize
-    ensures { result ≡ value_of name.now table.now }
+pub fn value(table: &[u8], name: &[u8]) -> Option<u8>
+    ensures { or_none result ≡ value_of name.now table.now }
 {
-    let text = said(table, name);
-    if text.len() == 0 {
-        return NONE;
-    }
-    wide(text[0])
+    said(table, name).first().copied()
 }

@@ -1,130 +1,127 @@
 // packet: what comes from the far end.
-use replay_answers::kept::Kept;
-use replay_answers::octs::{front, pair, within};
-use replay_answers::records::link;
-use replay_answers::says;
-use replay_answers::says::{answer, answer_with};
-use replay_reading::FINE;
-use replay_script::lines::rest;
-use replay_script::numbers::wide;
-use replay_words::{changes, notes, outcomes};
-use rules::Told;
-use rules::layout::{LENGTH_HIGH, LENGTH_LOW, LINK, PAYLOAD};
+use replay_answers::records::{Gathering, Saved};
+use replay_answers::says::Parted;
+use replay_answers::session::Session;
+use replay_silences::{packet_type, silent};
+use replay_words::changes;
+use replay_words::notes::{Asked, refused};
+use replay_words::outcomes::Outcome;
+use rules::{Header, Told};
 use std::io;
 
+// What became of a packet: what was saved before it and is after it, what was told of it, and the reply's payload.
+#[derive(Clone, Copy)]
+pub struct Arrival<'a> {
+    pub packet: &'a [u8],
+    pub before: &'a Saved,
+    pub after: &'a Saved,
+    pub told: Told,
+    pub reply: &'a [u8],
+}
+
 // A line for each packet of a reply.
-fn say_reply(
-    rt: &impl Print,
-    size: usize,
-    label: u8,
-    mtype: u8,
-    signal: u8,
-    payload: &[u8],
-) -> io::Result<()> {
-    let mut piece = [0u8; 672];
-    let count = bridge::packets(size, payload.len());
-    let mut i = 0;
-    while i < count {
-        let cut = bridge::cut(size, label, mtype, signal, payload, i, &mut piece);
-        let length = cut.length;
-        answer_with(rt, says::PACKET, 0, 0, front(&piece, length))?;
-        i += 1;
+fn say_reply(rt: &impl Print, size: usize, told: Told, payload: &[u8]) -> io::Result<()> {
+    let mut area = [0u8; 672];
+    let header = Header {
+        label: told.label,
+        mtype: told.mtype,
+        signal: told.signal,
+    };
+    for i in 0..bridge::packets(size, payload.len()) {
+        let piece = bridge::cut(size, header, payload, i, &mut area);
+        println!(rt; ">{}", Parted(area.get(..piece.length).unwrap_or(&[])))?;
     }
     Ok(())
 }
 
 // The answer to a packet; `reply` is the reply's payload.
 pub fn say_told(rt: &impl Print, size: usize, told: Told, reply: &[u8]) -> io::Result<()> {
-    let number = told.number;
-    if number != 0 {
-        return answer(rt, says::REFUSED, wide(number), 0);
+    match told {
+        Told {
+            number: 0,
+            mtype: 0,
+            ..
+        } => println!(rt; "silent"),
+        Told { number: 0, .. } => say_reply(rt, size, told, reply),
+        Told { number, .. } => println!(rt; "refused {number}"),
     }
-    if told.mtype == 0 {
-        return answer(rt, says::SILENT, 0, 0);
-    }
-    say_reply(rt, size, told.label, told.mtype, told.signal, reply)
 }
 
-// Whether a packet is a whole message.
-fn single(packet: &[u8]) -> bool {
-    if packet.len() < 2 {
-        return false;
+// The payload of a command, which was gathered before the packet and is carried by it: a packet that is a whole message carries
+// all of it, behind two octets, and the last one of several carries a part, behind one.
+fn payload<'a>(packet: &'a [u8], before: &'a Saved) -> (&'a [u8], &'a [u8]) {
+    match packet {
+        [first, _signal, payload @ ..] if packet_type(*first) == 0 => (&[], payload),
+        [_first, part @ ..] => (
+            Gathering::read(before).map_or(&[], |message| message.payload),
+            part,
+        ),
+        [] => (&[], &[]),
     }
-    replay_silences::packet_type(packet[0]) == 0
-}
-
-// The payload that a packet carries, behind its head.
-fn carried(packet: &[u8]) -> &[u8] {
-    if single(packet) {
-        return rest(packet, 2);
-    }
-    rest(packet, 1)
-}
-
-// The payload that was gathered before a packet, where it completed a message of several packets.
-fn gathered<'a>(packet: &[u8], gathering: &'a [u8]) -> &'a [u8] {
-    if gathering.len() < LINK {
-        return &gathering[0..0];
-    }
-    if single(packet) {
-        return &gathering[0..0];
-    }
-    front(
-        &gathering[PAYLOAD..LINK],
-        pair(gathering[LENGTH_HIGH], gathering[LENGTH_LOW]),
-    )
 }
 
 // What a packet's answer means, if that is asked for.
-pub fn explain(
-    rt: &impl Print,
-    kept: Kept,
-    told: Told,
-    packet: &[u8],
-    before: &[u8],
-    saved: &[u8],
-    reply: &[u8],
-) -> io::Result<()> {
-    if !kept.explains {
+pub fn explain(rt: &impl Print, session: &Session, arrival: Arrival<'_>) -> io::Result<()> {
+    let Arrival {
+        packet,
+        before,
+        after,
+        told,
+        reply,
+    } = arrival;
+    if !session.explains {
         return Ok(());
     }
     if told.number != 0 {
-        return notes::note(rt, told.number, notes::NO_ENDPOINT, 0, 0, 0);
+        return refused(rt, session, told.number, Asked::EndpointOfSeid);
     }
     if told.mtype == 0 {
-        return replay_silences::silent(rt, kept.size, packet, link(before), link(saved));
+        return silent(
+            rt,
+            session.size,
+            packet,
+            Gathering::read(before),
+            Gathering::read(after),
+        );
     }
-    outcomes::reply(
-        rt,
-        told.mtype,
-        told.signal,
-        gathered(packet, link(before)),
-        carried(packet),
+    let (first, last) = payload(packet, before);
+    let outcome = Outcome {
+        mtype: told.mtype,
+        signal: told.signal,
+        before: first,
+        last,
         reply,
-    )?;
-    changes::all(rt, before, saved, kept.records)?;
+    };
+    println!(rt; "# {outcome}")?;
+    changes::all(rt, before, after, session.records)?;
     Ok(())
 }
 
-// Hands a packet to the bridge.
-fn receive(kept: Kept, book: &[u8], saved: &mut [u8], packet: &[u8], area: &mut [u8]) -> Told {
-    let room = within(kept.area, area);
-    bridge::packet(book, kept.size, saved, packet, &mut area[0..room])
-}
-
-// packet HEX..; `before` is what was saved before it.
-pub fn packet(
-    rt: &impl Print,
-    kept: Kept,
-    book: &[u8],
-    saved: &mut [u8],
-    before: &[u8],
-    packet: &[u8],
-) -> io::Result<u8> {
-    let mut area = [0u8; 65536];
-    let told = receive(kept, book, saved, packet, &mut area);
-    let length = told.length;
-    say_told(rt, kept.size, told, front(&area, length))?;
-    explain(rt, kept, told, packet, before, saved, front(&area, length))?;
-    Ok(FINE)
+// packet HEX..
+pub fn packet(rt: &impl Print, session: &mut Session, packet: &[u8]) -> io::Result<()> {
+    let mut room = [0u8; 65536];
+    let before = session.saved;
+    let area = &mut room[..session.area.min(65536)];
+    let told = bridge::packet(
+        session.book.as_slice(),
+        session.size,
+        &mut session.saved,
+        packet,
+        area,
+    );
+    let reply = room.get(..told.length).unwrap_or(&[]);
+    say_told(rt, session.size, told, reply)?;
+    let session = &*session;
+    let after = &session.saved;
+    explain(
+        rt,
+        session,
+        Arrival {
+            packet,
+            before: &before,
+            after,
+            told,
+            reply,
+        },
+    )
 }

@@ -1,46 +1,28 @@
 // up, down and lost: what the host tells of the link.
-use replay_answers::kept::Kept;
-use replay_answers::says;
-use replay_answers::says::{answer, say};
-use replay_reading::FINE;
-use replay_script::numbers::wide;
-use replay_words::{changes, notes};
+use replay_answers::session::Session;
+use replay_words::changes;
+use replay_words::notes::{Asked, refused};
 use rules::Event;
+use rules::refusals::number;
 use std::io;
 
-// What an event's answer means, if that is asked for; `ten` is the key of number 10.
-fn explain(
-    rt: &impl Print,
-    kept: Kept,
-    number: u8,
-    ten: u8,
-    before: &[u8],
-    saved: &[u8],
-) -> io::Result<()> {
-    if !kept.explains {
-        return Ok(());
+// What number 10 says of an event.
+fn asked(event: Event) -> Asked {
+    match event {
+        Event::Up => Asked::AwaitedChannel,
+        Event::Down(_) | Event::Lost => Asked::ChannelOfSeid,
     }
-    if number != 0 {
-        return notes::note(rt, number, ten, 0, 0, 0);
-    }
-    if !changes::all(rt, before, saved, kept.records)? {
-        say(rt, b"# no endpoint has changed\n")?;
-    }
-    Ok(())
 }
 
-// `before` is what was saved before the event.
-pub fn happen(
-    rt: &impl Print,
-    kept: Kept,
-    book: &[u8],
-    saved: &mut [u8],
-    before: &[u8],
-    event: Event,
-    ten: u8,
-) -> io::Result<u8> {
-    let number = bridge::event(book, saved, event);
-    answer(rt, says::EVENT, wide(number), 0)?;
-    explain(rt, kept, number, ten, before, saved)?;
-    Ok(FINE)
+pub fn happen(rt: &impl Print, session: &mut Session, event: Event) -> io::Result<()> {
+    let before = session.saved;
+    let done = bridge::event(session.book.as_slice(), &mut session.saved, event);
+    println!(rt; "event {}", number(done))?;
+    if let Err(refusal) = done {
+        return refused(rt, session, u8::from(refusal), asked(event));
+    }
+    if session.explains && !changes::all(rt, &before, &session.saved, session.records)? {
+        println!(rt; "# no endpoint has changed")?;
+    }
+    Ok(())
 }

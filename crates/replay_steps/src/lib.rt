@@ -1,8 +1,6 @@
-// The steps that change something: what each does, and what is answered.
+// The steps that change what is saved by the bridge: what each does, and what is answered.
 #![tactic(auto)]
 
 pub mod arrivals;
 pub mod books;
 pub mod events;
-pub mod options;
-pub mod overwrites;

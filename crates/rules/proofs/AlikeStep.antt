@@ -176,7 +176,8 @@ alike_books [] [] e = no_entry
 alike_books [] (n' ∷ book') e = clash refl (sym e)
 alike_books (n ∷ book) [] e = clash refl (sym e)
 alike_books (n ∷ book) (n' ∷ book') e =
-    entries (and_l (alike_entry n n') (alike book book') e) (alike_books book book' (and_r (alike_entry n n') (alike book book') e))
+    entries (and_l (alike_entry n n') (alike book book') e)
+    (alike_books book book' (and_r (alike_entry n n') (alike book book') e))
 
 fresh_ends_same : {book book' : Book} → AlikeBooks book book' → fresh_ends book ≡ fresh_ends book'
 unfolding fresh_ends

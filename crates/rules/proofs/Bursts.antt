@@ -17,7 +17,8 @@ pub told_counted : (book : List ℕ) (size : ℕ) (saved : List ℕ) (ps : List 
     → length (successive book size saved ps reply).told ≡ length ps
 unfolding successive and_then
 told_counted book size saved [] reply = refl
-told_counted book size saved (p ∷ ps) reply = ap suc (told_counted book size (packet_call book size saved p (take slot reply)).saved ps (drop slot reply))
+told_counted book size saved (p ∷ ps) reply = ap suc
+    (told_counted book size (packet_call book size saved p (take slot reply)).saved ps (drop slot reply))
 
 pub slots_fit : (octets lengths reply : List ℕ) → length lengths ≤ most_packets → burst_room ≤ length reply
     → slot * length (packets_in octets lengths) ≤ length reply

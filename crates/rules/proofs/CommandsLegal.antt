@@ -20,7 +20,7 @@ use Rattle.rules.specs.declared.Rule.TheVariants.{Setting, Reconfiguring}
 use Rattle.rules.specs.declared.State.{State}
 use Rattle.rules.specs.declared.State.TheVariants.{Open, Streaming, Closing, Aborting}
 use Rattle.rules.specs.declared.Channel.TheVariants.{Up}
-use Rattle.rules.specs.declared.Delay.TheVariants.{Reported}
+use Rattle.std.specs.Prelude.{Some}
 use Rattle.rules.specs.declared.Signal.{Signal}
 use Rattle.rules.specs.declared.Signal.TheVariants.{Discover, GetCapabilities, SetConfiguration, GetConfiguration}
 use Rattle.rules.specs.declared.Signal.TheVariants.{Reconfigure, OpenUp, Start, Close, Suspend, Abort, SecurityControl}
@@ -124,7 +124,7 @@ module _ (book : Book) (ends : Ends) (h : LegalEnds book ends) where
   unfolding delay_at awaits moved_by may
   delay_at_legal p i n a is_set =
       let e = end_at ends i in
-      let heard = Reported (pair_in (get_or p 1 0) (get_or p 2 0)) in
+      let heard = Some (pair_in (get_or p 1 0) (get_or p 2 0)) in
       if_arms (Leaves book) (not (takes_delay n e)) _ _ (λ t. same_legal _) λ takes.
       moves_legal i n (moved_by (with_delay heard) e) a
       (with_delay_legal n e (legal_at a ends h.every) heard is_set (not-false (takes_delay n e) takes))

@@ -116,7 +116,8 @@ book_number_lem b =
 -- the book's numbers, and then those of a list
 book_or : (k b : List ℕ) (next : ℕ) → Among (book_numbers ++ k) next
     → Among (book_numbers ++ k) (number_or (book_number b) next)
-book_or k b next a = or_among (book_numbers ++ k) (book_number b) next (among_more book_numbers k (book_number b) (book_number_lem b)) a
+book_or k b next a = or_among (book_numbers ++ k) (book_number b) next
+    (among_more book_numbers k (book_number b) (book_number_lem b)) a
 
 -- ---- What the calls that are given a saved area test
 

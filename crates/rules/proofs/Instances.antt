@@ -17,7 +17,7 @@ use Rattle.rules.specs.Moves.{Stopped, is_accept, shifts}
 use Rattle.rules.specs.Table.{trace_book}
 use Rattle.rules.specs.declared.State.TheVariants.{Open, Streaming}
 use Rattle.rules.specs.declared.Channel.TheVariants.{Up}
-use Rattle.rules.specs.declared.Delay.TheVariants.{Unreported}
+use Rattle.std.specs.Prelude.{None}
 use Rattle.rules.specs.declared.Signal.TheVariants.{Start}
 use Rattle.rules.proofs.Moves.{start_stops, unmoved}
 use Rattle.rules.proofs.Refused.{refused_packet, refused_burst}
@@ -28,7 +28,7 @@ pub open_and_idle : Ends
 open_and_idle =
     record {
       head =
-          record { seid = record { 0 = 1 }; state = Open; channel = Up; far = record { 0 = 1 }; delay = Unreported };
+          record { seid = record { 0 = 1 }; state = Open; channel = Up; far = record { 0 = 1 }; delay = None };
       config = 0x01 ∷ 0x00 ∷ 0x07 ∷ 0x06 ∷ 0x00 ∷ 0x00 ∷ 0x21 ∷ 0x15 ∷ 0x02 ∷ 0x35 ∷ [];
     }
     ∷ record { head = idle_head (record { 0 = 5 }); config = [] }

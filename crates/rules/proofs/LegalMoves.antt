@@ -19,7 +19,7 @@ use Rattle.rules.specs.declared.State.{State}
 use Rattle.rules.specs.declared.State.TheVariants.{Idle, Configured, Open, Streaming, Closing, Aborting}
 use Rattle.rules.specs.declared.Channel.{Channel}
 use Rattle.rules.specs.declared.Channel.TheVariants.{Absent, Awaited, Up}
-use Rattle.rules.specs.declared.Delay.{Delay}
+use Rattle.rules.specs.Delays.{Delay}
 use Rattle.rules.proofs.Tests.{clash, and_l, and_r, or_l, or_r}
 use Rattle.rules.proofs.Places.{awaits}
 use Rattle.rules.proofs.Outcomes.{if_arms}

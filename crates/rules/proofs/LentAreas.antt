@@ -261,7 +261,8 @@ answer_cleared b saved check = refl
 answer_cleared b saved fresh = refl
 answer_cleared b saved (packet size p reply) = packet_told_alike b size saved p reply _ (zeros_long reply)
 answer_cleared b saved (burst size octets lengths reply) =
-    (burst_alike b size saved octets lengths reply _ (zeros_long reply) (whether (eqb (burst_refusal b size saved lengths reply) 0))
+    (burst_alike b size saved octets lengths reply _ (zeros_long reply)
+    (whether (eqb (burst_refusal b size saved lengths reply) 0))
     ).answer
 answer_cleared b saved (event e) = refl
 answer_cleared b saved (settings s) = refl
@@ -276,7 +277,8 @@ saved_cleared b saved check = refl
 saved_cleared b saved fresh = refl
 saved_cleared b saved (packet size p reply) = packet_saved_alike b size saved p reply _ (zeros_long reply)
 saved_cleared b saved (burst size octets lengths reply) =
-    (burst_alike b size saved octets lengths reply _ (zeros_long reply) (whether (eqb (burst_refusal b size saved lengths reply) 0))
+    (burst_alike b size saved octets lengths reply _ (zeros_long reply)
+    (whether (eqb (burst_refusal b size saved lengths reply) 0))
     ).saved
 saved_cleared b saved (event e) = refl
 saved_cleared b saved (settings s) = refl

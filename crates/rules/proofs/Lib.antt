@@ -19,6 +19,7 @@ pub mod Bursts
 pub mod Unrefused
 pub mod SavedStaysRight
 pub mod Never12
+pub mod Refusing
 pub mod Refused
 pub mod SettingsShown
 pub mod View

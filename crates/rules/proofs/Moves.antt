@@ -17,7 +17,8 @@ use Rattle.rules.specs.Packets.{Message}
 use Rattle.rules.specs.Endpoints.{Endpoint, Ends, end_at, in_state, idle, far_right, awaiting, takes_delay, moved_by}
 use Rattle.rules.specs.Commands.{Reply, silence, general_reject, accept, reject, Outcome, stays, moves, rejects, length_right}
 use Rattle.rules.specs.Commands.{our_in, far_in, wrong_state, met_at, meets, named, discover, offers_at, set_at, configuration_at}
-use Rattle.rules.specs.Commands.{reconfigure_at, open_at, shift_one, shift_each, shift, leave_at, security_at, delay_at, signal_of}
+use Rattle.rules.specs.Commands.{reconfigure_at, open_at, shift_one, shift_each, shift, leave_at, security_at, delay_at}
+use Rattle.rules.specs.Commands.{signal_of}
 use Rattle.rules.specs.Commands.{obey, answer}
 use Rattle.rules.specs.Moves.{moved_one, moved_all, may_one, may_all, fail_code, stands_at, lists, moved_if, Stopped, shifts}
 use Rattle.rules.specs.Moves.{is_accept}
@@ -122,7 +123,8 @@ moved_once to unknown ends i h = refl
 moved_once to (known j n) ends i h = go (told (eqb i j))
   where
     go : Told? (eqb i j)
-        → get_or (set ends j (moved_by (in_state to) (end_at ends j))) i (idle (record { 0 = 0 })) ≡ moved_if (eqb i j) to (end_at ends i)
+        → get_or (set ends j (moved_by (in_state to) (end_at ends j))) i (idle (record { 0 = 0 }))
+        ≡ moved_if (eqb i j) to (end_at ends i)
     go (passed q) = rw (q, eqb-true i j q) (get_or-set_same ends j _ _ (rw (eqb-true i j q) at h))
     go (failed q) = rw q (get_or-set_other ends j i _ _ (eqb-false i j q))
 

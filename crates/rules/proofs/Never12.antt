@@ -27,8 +27,8 @@ use Rattle.rules.specs.Sessions.{call, answers, status, burst, answered_each}
 use Rattle.rules.specs.Bursts.{most_packets, burst_room, burst_refusal, none_told, BurstAnswered, burst_taken, burst_call}
 use Rattle.rules.specs.Listed.{number_in, is12}
 use Rattle.rules.specs.declared.OurSeid.{OurSeid}
-use Rattle.rules.specs.declared.Delay.{Delay}
-use Rattle.rules.specs.declared.Delay.TheVariants.{Unreported, Reported}
+use Rattle.rules.specs.Delays.{Delay}
+use Rattle.std.specs.Prelude.{None, Some}
 use Rattle.rules.specs.declared.Event.{Event}
 use Rattle.rules.specs.declared.Event.TheVariants.{Up, Down, Lost}
 use Rattle.rules.specs.declared.Standing.{Standing}
@@ -108,8 +108,8 @@ shown_not_12 (known i n) ends = below_12 0 (lit≤ tt)
 
 heard_number : (n : ℕ) (d : Delay) → Not12 n → Not12 (Host.heard n d).number
 unfolding Host.heard
-heard_number n Unreported h = h
-heard_number n (Reported d) h = h
+heard_number n None h = h
+heard_number n (Some d) h = h
 
 standing_not_12 : (f : Found) (ends : Ends) → Not12 (standing_at f ends).number
 unfolding standing_at nowhere standing
@@ -118,7 +118,7 @@ standing_not_12 (known i n) ends = below_12 0 (lit≤ tt)
 
 heard_not_12 : (f : Found) (ends : Ends) → Not12 (heard_at f ends).number
 unfolding heard_at
-heard_not_12 unknown ends = heard_number 10 Unreported (below_12 10 (lit≤ tt))
+heard_not_12 unknown ends = heard_number 10 None (below_12 10 (lit≤ tt))
 heard_not_12 (known i n) ends = heard_number 0 (end_at ends i).head.delay (below_12 0 (lit≤ tt))
 
 -- ---- What the calls test on a right area
@@ -182,7 +182,7 @@ module _ (b saved : List ℕ) (h : saved_right (book_of b) saved ≡ true) where
   unfolding delay_call
   delay_not_12 s =
       if_arms (λ (k : Heard). Not12 k.number) (eqb (refusal_of b saved) 0) _ _
-      (λ t. heard_not_12 (find s (book_of b)) _) (λ f. heard_number (refusal_of b saved) Unreported refusal_not_12)
+      (λ t. heard_not_12 (find s (book_of b)) _) (λ f. heard_number (refusal_of b saved) None refusal_not_12)
 
   status_not_12 : (s : OurSeid) → Not12 (status_call b saved s).number
   unfolding status_call nowhere standing

@@ -53,7 +53,8 @@ module _ (signal : Signal) (book : Book) (ends : Ends) where
     -- of the first of the SEIDs that are shifted
     pub shift_arms : (to : State) (s : OurSeid) (next : Ends → Outcome)
         → ((code : ℕ) → P (stays ends (rejects signal (s.0 * 4) code)))
-        → ((i : ℕ) (n : Entry) → At book i n → Takes signal ends i → P (next (set ends i (moved_by (in_state to) (end_at ends i)))))
+        → ((i : ℕ) (n : Entry) → At book i n → Takes signal ends i
+        → P (next (set ends i (moved_by (in_state to) (end_at ends i)))))
         → P (shift_one signal to s ends next (meets signal book ends s))
     unfolding shift_one
     shift_arms to s next refuses goes = meets_arms (λ m. P (shift_one signal to s ends next m)) refuses goes s

@@ -66,7 +66,8 @@ header_length m count (suc k) = go (ltb (suc (suc k)) count)
     go false = refl
 
 pub packet_length : (size : ℕ) (m : Message) (k : ℕ)
-    → length (packet_at size m k) ≡ header_of avdtp (count_of size m) k + length (part_of avdtp size (count_of size m) k m.payload)
+    → length (packet_at size m k) ≡ header_of avdtp (count_of size m) k + length
+    (part_of avdtp size (count_of size m) k m.payload)
 unfolding packet_at
 packet_length size m k = rw (length-append, header_length)
 
@@ -101,7 +102,8 @@ module _ (m : Message) (r : HasRoom m) where
   unfolding first_octet
   packet_type_number t b = omega arith
 
-  packet_type_back : (t : ℕ) → t < 4 → packet_type_in (first_octet t m) ≡ get_or (a_single ∷ a_start ∷ a_continue ∷ an_end ∷ []) t a_single
+  packet_type_back : (t : ℕ) → t < 4 → packet_type_in (first_octet t m)
+      ≡ get_or (a_single ∷ a_start ∷ a_continue ∷ an_end ∷ []) t a_single
   unfolding packet_type_in
   packet_type_back t b = rw packet_type_number
 

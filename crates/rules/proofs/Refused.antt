@@ -21,8 +21,8 @@ use Rattle.rules.specs.Host.{Answered, packet_call, Kept, fresh_call, event_call
 use Rattle.rules.specs.Host.{delay_call, refusal_of, Cut, cut_refusal, cut_call, standing_at, status_call, nowhere, standing}
 use Rattle.rules.specs.Bursts.{packets_in, burst_refusal, none_told, BurstAnswered, burst_taken, burst_call}
 use Rattle.rules.specs.declared.OurSeid.{OurSeid}
-use Rattle.rules.specs.declared.Delay.{Delay}
-use Rattle.rules.specs.declared.Delay.TheVariants.{Unreported, Reported}
+use Rattle.rules.specs.Delays.{Delay}
+use Rattle.std.specs.Prelude.{None, Some}
 use Rattle.rules.specs.declared.Event.{Event}
 use Rattle.rules.specs.declared.Standing.{Standing}
 use Rattle.rules.specs.declared.Heard.{Heard}
@@ -198,17 +198,17 @@ refused_settings book saved s = by (eqb (refusal_of book saved) 0)
 
 heard_number : (n : ℕ) (d : Delay) → (heard n d).number ≡ n
 unfolding heard
-heard_number n Unreported = refl
-heard_number n (Reported d) = refl
+heard_number n None = refl
+heard_number n (Some d) = refl
 
 none_heard : (f : Found) (ends : Ends) → ((heard_at f ends).number ≡ 0 → ⊥) → heard_at f ends
-    ≡ heard (heard_at f ends).number Unreported
+    ≡ heard (heard_at f ends).number None
 unfolding heard_at heard
 none_heard unknown ends h = refl
 none_heard (known i n) ends h = absurd (h (heard_number 0 (end_at ends i).head.delay))
 
 pub refused_delay : (book saved : List ℕ) (s : OurSeid) → ((delay_call book saved s).number ≡ 0 → ⊥)
-    → delay_call book saved s ≡ heard (delay_call book saved s).number Unreported
+    → delay_call book saved s ≡ heard (delay_call book saved s).number None
 unfolding delay_call heard
 refused_delay book saved s = by (eqb (refusal_of book saved) 0)
   where
@@ -216,8 +216,8 @@ refused_delay book saved s = by (eqb (refusal_of book saved) 0)
     asked = heard_at (find s (book_of book)) (connection_in (length (book_of book)) saved).ends
 
     by : (b : Bool)
-        → let x : Heard = if b then asked else heard (refusal_of book saved) Unreported in
-        (x.number ≡ 0 → ⊥) → x ≡ heard x.number Unreported
+        → let x : Heard = if b then asked else heard (refusal_of book saved) None in
+        (x.number ≡ 0 → ⊥) → x ≡ heard x.number None
     by true h = none_heard (find s (book_of book)) (connection_in (length (book_of book)) saved).ends h
     by false h = refl
 

@@ -20,7 +20,8 @@ use Rattle.rules.specs.Packets.{Gathering, longest, gathering_right}
 use Rattle.rules.specs.Endpoints.{Endpoint, Ends, Connection, fresh_connection, legal_gathering}
 use Rattle.rules.specs.Saved.{count_room, gathering_room, link_room, records_place, record_room, head_room, config_room, area_for}
 use Rattle.rules.specs.Saved.{count_in, link_of, records_of, unused, pair_in, state_in, state_octet, channel_in, channel_octet}
-use Rattle.rules.specs.Saved.{payload_length_in, delay_in, delay_mark, delay_tenths, head_in, config_in, endpoint_in, record_right}
+use Rattle.rules.specs.Saved.{payload_length_in, delay_in, delay_mark, delay_tenths, head_in, config_in, endpoint_in}
+use Rattle.rules.specs.Saved.{record_right}
 use Rattle.rules.specs.Saved.{head_octets, store_end, ends_in, records_right, store_ends, gathering_at, gathering_in}
 use Rattle.rules.specs.Saved.{gathering_octets_right, gathering_head, store_gathering, connection_in, store}
 use Rattle.rules.specs.Computed.{computed}
@@ -29,8 +30,8 @@ use Rattle.rules.specs.declared.State.{State}
 use Rattle.rules.specs.declared.State.TheVariants.{Idle, Configured, Open, Streaming, Closing, Aborting}
 use Rattle.rules.specs.declared.Channel.{Channel}
 use Rattle.rules.specs.declared.Channel.TheVariants.{Absent, Awaited, Up}
-use Rattle.rules.specs.declared.Delay.{Delay}
-use Rattle.rules.specs.declared.Delay.TheVariants.{Unreported, Reported}
+use Rattle.rules.specs.Delays.{Delay}
+use Rattle.std.specs.Prelude.{None, Some}
 use Rattle.rules.proofs.Tests.{and_l, and_r, and_both, same_octets_lem}
 
 -- ---- Room: what an area must have, and a connection keep to, for the connection to be stored there
@@ -72,8 +73,8 @@ channel_back Awaited = refl
 channel_back Up = refl
 
 delay_back : (d : Delay) → delay_in (delay_mark d) (pair_in (delay_tenths d / 256) (delay_tenths d % 256)) ≡ d
-delay_back Unreported = refl
-delay_back (Reported d) = ap Reported (div-add-mod' d 256)
+delay_back None = refl
+delay_back (Some d) = ap Some (div-add-mod' d 256)
 
 pub end_back : (e : Endpoint) (r : List ℕ) → endpoint_in (store_end e r) ≡ e
 unfolding endpoint_in head_in config_in store_end head_octets front
@@ -134,15 +135,16 @@ channel_written Up = refl
 
 delay_written : (d : Delay)
     → eqb (delay_mark d) 1 || (eqb (delay_mark d) 0 && eqb (delay_tenths d / 256) 0 && eqb (delay_tenths d % 256) 0) ≡ true
-delay_written Unreported = refl
-delay_written (Reported d) = refl
+delay_written None = refl
+delay_written (Some d) = refl
 
 pub end_right : (e : Endpoint) (r : List ℕ) → leb (length e.config) 64 ≡ true → record_right (store_end e r) ≡ true
 unfolding record_right store_end head_octets front same_octets
 end_right e r short =
     simp (state_written e.head.state, channel_written e.head.channel, delay_written e.head.delay, short) refl
 
-pub gathering_right_lem : (g : Option Gathering) (r : List ℕ) → PayloadFits g → gathering_octets_right (store_gathering g r) ≡ true
+pub gathering_right_lem : (g : Option Gathering) (r : List ℕ) → PayloadFits g
+    → gathering_octets_right (store_gathering g r) ≡ true
 unfolding gathering_octets_right store_gathering gathering_head front longest
 gathering_right_lem none r fits = refl
 gathering_right_lem (some g) r fits = rw (div-add-mod' (length g.message.payload) 256) (le-leb _ _ fits)
@@ -338,7 +340,8 @@ octets_from_lem (suc n) k r h =
     ap (◌∷◌ (get_or r k 0)) (octets_from_lem n (suc k) r (omega arith)) ∙ ap (take (suc n)) (sym (drop-cons r k 0 (omega arith)))
 
 first_eight : (r : List ℕ) → 8 ≤ length r
-    → get_or r 0 0 ∷ get_or r 1 0 ∷ get_or r 2 0 ∷ get_or r 3 0 ∷ get_or r 4 0 ∷ get_or r 5 0 ∷ get_or r 6 0 ∷ get_or r 7 0 ∷ [] ≡ take 8 r
+    → get_or r 0 0 ∷ get_or r 1 0 ∷ get_or r 2 0 ∷ get_or r 3 0 ∷ get_or r 4 0 ∷ get_or r 5 0 ∷ get_or r 6 0 ∷ get_or r 7 0 ∷ []
+    ≡ take 8 r
 unfolding octets_from
 first_eight r h = octets_from_lem 8 0 r h
 
@@ -497,7 +500,8 @@ unfolding store connection_in area_for link_of records_of
 store_read n l count area gathering records octets =
     ap₂ (λ (k : ℕ) (t : List ℕ). k ∷ t) (length_ends_in n (records_of l) ∙ sym count)
     (ap₂ ◌++◌
-    (gathering_kept (link_of l) (gathering_room_lem n l area) gathering (octets_take link_room _ (octets_drop count_room l octets)))
+    (gathering_kept (link_of l) (gathering_room_lem n l area) gathering
+    (octets_take link_room _ (octets_drop count_room l octets)))
     (ends_kept n (records_of l) (records_room n l area) records (octets_drop records_place l octets)))
     ∙ parts_joined l (omega arith)
 

@@ -104,7 +104,8 @@ pub successive_keeps : (b : List ℕ) (size : ℕ) (saved : List ℕ) (ps : List
 unfolding successive and_then
 successive_keeps b size saved [] reply right h = h
 successive_keeps b size saved (p ∷ ps) reply right h =
-    successive_keeps b size (packet_call b size saved p (take slot reply)).saved ps (drop slot reply) right (packet_keeps b saved right h size p (take slot reply))
+    successive_keeps b size (packet_call b size saved p (take slot reply)).saved ps (drop slot reply) right
+    (packet_keeps b saved right h size p (take slot reply))
 
 burst_keeps : (b : List ℕ) (size : ℕ) (saved octets lengths reply : List ℕ) → book_number b ≡ 0
     → saved_right (book_of b) saved ≡ true → saved_right (book_of b) (burst_call b size saved octets lengths reply).saved ≡ true

@@ -51,7 +51,8 @@ settings_fit n e right lawful =
     (λ f. end_short n e right lawful)
 
 -- the record of an endpoint that is found
-found_legal : (s : OurSeid) (book : Book) (ends : Ends) (i : ℕ) (n : Entry) → legal_ends book ends ≡ true → find s book ≡ known i n
+found_legal : (s : OurSeid) (book : Book) (ends : Ends) (i : ℕ) (n : Entry) → legal_ends book ends ≡ true
+    → find s book ≡ known i n
     → legal_end n (end_at ends i) ≡ true
 found_legal s book ends i n lawful f = legal_at (find_known s book i n f).place ends lawful
 

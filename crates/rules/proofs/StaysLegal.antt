@@ -20,8 +20,8 @@ use Rattle.rules.specs.Host.{handled_by, takes}
 use Rattle.rules.specs.declared.State.TheVariants.{Idle}
 use Rattle.rules.specs.declared.Channel.{Channel}
 use Rattle.rules.specs.declared.Channel.TheVariants.{Absent, Awaited, Up}
-use Rattle.rules.specs.declared.Delay.{Delay}
-use Rattle.rules.specs.declared.Delay.TheVariants.{Unreported, Reported}
+use Rattle.rules.specs.Delays.{Delay}
+use Rattle.std.specs.Prelude.{None, Some}
 use Rattle.rules.specs.declared.Event.{Event}
 use Rattle.rules.specs.declared.Event.TheVariants.{Down, Lost}
 use Rattle.rules.proofs.Tests.{clash, and_l, and_r, and_both}
@@ -160,10 +160,10 @@ absent_is Absent h = refl
 absent_is Awaited h = clash h refl
 absent_is Up h = clash h refl
 
-unreported_is : (d : Delay) → not (is_reported d) ≡ true → d ≡ Unreported
+unreported_is : (d : Delay) → not (is_reported d) ≡ true → d ≡ None
 unfolding is_reported
-unreported_is Unreported h = refl
-unreported_is (Reported d) h = clash h refl
+unreported_is None h = refl
+unreported_is (Some d) h = clash h refl
 
 pub empty_is : (l : List ℕ) → is_empty l ≡ true → l ≡ []
 unfolding is_empty

@@ -221,5 +221,6 @@ pub start_stopped :
     (packet_call trace_book 48 open_area (0x80 ∷ 0x07 ∷ 0x04 ∷ 0x14 ∷ []) reply_area)
 unfolding computed trace_book open_area shifts
 start_stopped =
-    packet_stopped trace_book 48 open_area (0x80 ∷ 0x07 ∷ 0x04 ∷ 0x14 ∷ []) reply_area trace_book_right open_area_right start_of_both
+    packet_stopped trace_book 48 open_area (0x80 ∷ 0x07 ∷ 0x04 ∷ 0x14 ∷ []) reply_area trace_book_right open_area_right
+    start_of_both
     refl refl refl refl

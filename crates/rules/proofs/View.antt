@@ -122,10 +122,12 @@ module _ (b : List ℕ) (ok : book_number b ≡ 0) where
         (answered (record { told = t.told; saved = store t.connection s; reply = front t.payload reply }))
         (ap answered (packet_comes size p reply taken)) (rw taken) (rw taken (packet_next size p))
     packet_step size p reply (failed refused) =
-        step (packet size p reply) (answered (record { told = nothing_said (packet_number size reply); saved = s; reply = reply }))
+        step (packet size p reply) (answered
+        (record { told = nothing_said (packet_number size reply); saved = s; reply = reply }))
         (rw (packet_refusal_lem size reply, refused)) (rw refused) (rw refused v)
 
-    burst_refusal_lem : (size : ℕ) (lengths reply : List ℕ) → burst_refusal b size s lengths reply ≡ burst_number size lengths reply
+    burst_refusal_lem : (size : ℕ) (lengths reply : List ℕ)
+        → burst_refusal b size s lengths reply ≡ burst_number size lengths reply
     unfolding burst_refusal burst_number number_or saved_number
     burst_refusal_lem size lengths reply = rw (ok, v.right)
 

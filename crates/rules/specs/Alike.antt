@@ -1,6 +1,7 @@
 -- The words of demand 3: books that differ only in which endpoints offer delay reporting, a far end that never uses it, where
 -- the two bridges begin, and what it is that they behave alike.
-use Rattle.std.specs.Prelude.{ℕ, ◌≡◌, List, [], ◌∷◌, ◌++◌, map, Bool, true, false, not, ◌&&◌, ◌||◌, length, take, drop, replicate, leb, eqb, if◌then◌else◌}
+use Rattle.std.specs.Prelude.{ℕ, ◌≡◌, List, [], ◌∷◌, ◌++◌, map, Bool, true, false, not, ◌&&◌, ◌||◌, length, take, drop, replicate}
+use Rattle.std.specs.Prelude.{leb, eqb, if◌then◌else◌}
 use Rattle.std.proofs.Math.Option.{Option, none, some}
 use Rattle.rules.specs.Octets.{same_octets, each_of}
 use Rattle.rules.specs.Elements.{items, has}

@@ -1,5 +1,6 @@
 -- The endpoint book (document 01, The endpoint book; numbers 1 to 7 of What the host is told).
-use Rattle.std.specs.Prelude.{ℕ, zero, suc, ◌/◌, ◌%◌, List, [], ◌∷◌, ◌++◌, Bool, not, ◌&&◌, length, take, drop, get_or, leb, ltb, eqb, if◌then◌else◌}
+use Rattle.std.specs.Prelude.{ℕ, zero, suc, ◌/◌, ◌%◌, List, [], ◌∷◌, ◌++◌, Bool, not, ◌&&◌, length, take, drop, get_or, leb, ltb}
+use Rattle.std.specs.Prelude.{eqb, if◌then◌else◌}
 use Rattle.rules.specs.Octets.{between, same_octets, is_empty}
 use Rattle.rules.specs.Elements.{Item, whole, short, items, fault_in, element}
 use Rattle.rules.specs.declared.OurSeid.{OurSeid}

@@ -1,6 +1,7 @@
 -- Every command: the checks that it begins with, and what it does at the endpoint that it names (document 01, Commands; 001, 8.5
 -- to 8.19).
-use Rattle.std.specs.Prelude.{ℕ, ◌+◌, ◌*◌, ◌/◌, List, [], ◌∷◌, Bool, true, false, not, ◌&&◌, ◌||◌, length, drop, get_or, set, leb, eqb, if◌then◌else◌}
+use Rattle.std.specs.Prelude.{ℕ, ◌+◌, ◌*◌, ◌/◌, List, [], ◌∷◌, Bool, true, false, not, ◌&&◌, ◌||◌, length, drop, get_or, set, leb}
+use Rattle.std.specs.Prelude.{eqb, if◌then◌else◌}
 use Rattle.rules.specs.Elements.{items, fault_in, stored, restored}
 use Rattle.rules.specs.Book.{Entry, Book, Found, unknown, known, find, shown_by_02, shown_by_0C}
 use Rattle.rules.specs.Packets.{Message}
@@ -14,7 +15,7 @@ use Rattle.rules.specs.declared.Fault.{Fault}
 use Rattle.rules.specs.declared.State.{State}
 use Rattle.rules.specs.declared.State.TheVariants.{Idle, Configured, Open, Streaming, Closing, Aborting}
 use Rattle.rules.specs.declared.Channel.{Channel}
-use Rattle.rules.specs.declared.Delay.TheVariants.{Reported}
+use Rattle.std.specs.Prelude.{Some}
 use Rattle.rules.specs.declared.Signal.{Signal}
 use Rattle.rules.specs.declared.Signal.TheVariants.{Discover, GetCapabilities, SetConfiguration, GetConfiguration}
 use Rattle.rules.specs.declared.Signal.TheVariants.{Reconfigure, OpenUp, Start, Close, Suspend, Abort, SecurityControl}
@@ -278,7 +279,7 @@ unfoldable pub delay_at : Ends → List ℕ → ℕ → Entry → Outcome
 delay_at ends p i n =
     let e = end_at ends i in
     if not (takes_delay n e) then stays ends (rejects DelayReport 0 0x19)
-    else moves ends i (moved_by (with_delay (Reported (pair_in (get_or p 1 0) (get_or p 2 0)))) e)
+    else moves ends i (moved_by (with_delay (Some (pair_in (get_or p 1 0) (get_or p 2 0)))) e)
 
 -- ---- All commands
 

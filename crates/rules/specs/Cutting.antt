@@ -1,6 +1,7 @@
 -- Cutting a message into packets (document 01, Packets and messages). How many packets and which part of the payload each has is
 -- stated over the sizes of the headers; AVDTP's are 2, 3 and 1.
-use Rattle.std.specs.Prelude.{ℕ, zero, suc, ◌+◌, ◌-◌, ◌*◌, ◌/◌, List, [], ◌∷◌, ◌++◌, length, take, drop, leb, ltb, eqb, if◌then◌else◌}
+use Rattle.std.specs.Prelude.{ℕ, zero, suc, ◌+◌, ◌-◌, ◌*◌, ◌/◌, List, [], ◌∷◌, ◌++◌, length, take, drop, leb, ltb, eqb}
+use Rattle.std.specs.Prelude.{if◌then◌else◌}
 use Rattle.rules.specs.Packets.{Message}
 
 -- octets of header in a single, a start and a continue or end

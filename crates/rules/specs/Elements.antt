@@ -1,6 +1,7 @@
 -- Lists of elements: how octets are read as elements, the checks of a list by its rule with the first failure, and what a stored
 -- configuration is (document 01, The endpoint book and Elements).
-use Rattle.std.specs.Prelude.{ℕ, zero, suc, ◌/◌, ◌*◌, List, [], ◌∷◌, ◌++◌, Bool, true, false, not, ◌&&◌, ◌||◌, length, take, get_or, leb, ltb, eqb, if◌then◌else◌}
+use Rattle.std.specs.Prelude.{ℕ, zero, suc, ◌/◌, ◌*◌, List, [], ◌∷◌, ◌++◌, Bool, true, false, not, ◌&&◌, ◌||◌, length, take}
+use Rattle.std.specs.Prelude.{get_or, leb, ltb, eqb, if◌then◌else◌}
 use Rattle.std.specs.Int.Bits.{bit_and}
 use Rattle.rules.specs.Octets.{same_octets, member, some_of}
 use Rattle.rules.specs.declared.Rule.{Rule}
@@ -43,7 +44,8 @@ pub data Category : Type 0 where
 
 unfoldable pub category_of : ℕ → Category
 category_of c =
-    get_or (strange ∷ transport ∷ reporting ∷ recovery ∷ protection ∷ compression ∷ multiplexing ∷ codec ∷ delaying ∷ []) c strange
+    get_or (strange ∷ transport ∷ reporting ∷ recovery ∷ protection ∷ compression ∷ multiplexing ∷ codec ∷ delaying ∷ []) c
+    strange
 
 -- The code for a value of n octets; 0 where the length is right.
 unfoldable pub length_code : Category → ℕ → ℕ
@@ -75,7 +77,8 @@ start_right media c v = not (eqb c 7) || eqb (get_or v 0 0) (media * 16)
 unfoldable pub offer_code : ℕ → List ℕ → Item → ℕ
 offer_code media seen (short c) = 7
 offer_code media seen (whole c v) =
-    if may_follow (get_or seen 0 0) c && member c offerable && eqb (length_code (category_of c) (length v)) 0 && start_right media c v
+    if may_follow (get_or seen 0 0) c && member c offerable && eqb (length_code (category_of c) (length v)) 0
+    && start_right media c v
     then 0 else 7
 
 -- ---- Offered (document 01, Elements)

@@ -1,5 +1,6 @@
 -- Endpoints and connections: when a connection is legal, and the link events (document 01, What the host is told and Commands).
-use Rattle.std.specs.Prelude.{ℕ, ◌+◌, List, [], ◌∷◌, map, Bool, true, false, not, ◌&&◌, ◌||◌, get_or, set, leb, eqb, if◌then◌else◌}
+use Rattle.std.specs.Prelude.{ℕ, ◌+◌, List, [], ◌∷◌, map, Bool, true, false, not, ◌&&◌, ◌||◌, get_or, set, leb, eqb}
+use Rattle.std.specs.Prelude.{if◌then◌else◌}
 use Rattle.std.proofs.Math.Option.{Option, none, some}
 use Rattle.rules.specs.Octets.{between, is_empty}
 use Rattle.rules.specs.Elements.{items, has, could_store}
@@ -11,8 +12,8 @@ use Rattle.rules.specs.declared.State.{State}
 use Rattle.rules.specs.declared.State.TheVariants.{Idle, Configured, Open, Streaming, Closing, Aborting}
 use Rattle.rules.specs.declared.Channel.{Channel}
 use Rattle.rules.specs.declared.Channel.TheVariants.{Absent, Awaited, Up}
-use Rattle.rules.specs.declared.Delay.{Delay}
-use Rattle.rules.specs.declared.Delay.TheVariants.{Unreported, Reported}
+use Rattle.rules.specs.Delays.{Delay}
+use Rattle.std.specs.Prelude.{None, Some}
 use Rattle.rules.specs.declared.Head.{Head}
 use Rattle.rules.specs.declared.Event.{Event}
 use Rattle.rules.specs.declared.Event.TheVariants.{Down, Lost}
@@ -36,7 +37,7 @@ pub record Connection : Type 0 where
 
 -- Idle: no configuration, no far SEID, no reported delay and no channel.
 abbrev pub idle_head : OurSeid → Head
-idle_head s = record { seid = s; state = Idle; channel = Absent; far = record { 0 = 0 }; delay = Unreported }
+idle_head s = record { seid = s; state = Idle; channel = Absent; far = record { 0 = 0 }; delay = None }
 
 unfoldable pub idle : OurSeid → Endpoint
 idle s = record { head = idle_head s; config = [] }
@@ -78,8 +79,8 @@ is_idle Closing = false
 is_idle Aborting = false
 
 unfoldable pub is_reported : Delay → Bool
-is_reported Unreported = false
-is_reported (Reported d) = true
+is_reported None = false
+is_reported (Some d) = true
 
 -- Configured endpoints have no channel, open ones have one or await it, streaming, closing and aborting ones have one.
 unfoldable pub channel_right : State → Channel → Bool
@@ -147,7 +148,7 @@ opened h = with_channel Awaited (in_state Open h)
 
 -- configured by a far SEID
 abbrev pub settled_by : FarSeid → Head → Head
-settled_by far h = record { seid = h.seid; state = Configured; channel = Absent; far = far; delay = Unreported }
+settled_by far h = record { seid = h.seid; state = Configured; channel = Absent; far = far; delay = None }
 
 -- the head moved, the configuration as it was
 unfoldable pub moved_by : (Head → Head) → Endpoint → Endpoint

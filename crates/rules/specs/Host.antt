@@ -11,8 +11,8 @@ use Rattle.rules.specs.Endpoints.{Endpoint, Ends, Connection, idle_head, fresh_c
 use Rattle.rules.specs.Saved.{area_for, connection_in, store, saved_right}
 use Rattle.rules.specs.Commands.{Reply, silence, general_reject, accept, reject, answer}
 use Rattle.rules.specs.declared.OurSeid.{OurSeid}
-use Rattle.rules.specs.declared.Delay.{Delay}
-use Rattle.rules.specs.declared.Delay.TheVariants.{Unreported, Reported}
+use Rattle.rules.specs.Delays.{Delay}
+use Rattle.std.specs.Prelude.{None, Some}
 use Rattle.rules.specs.declared.Head.{Head}
 use Rattle.rules.specs.declared.Event.{Event}
 use Rattle.rules.specs.declared.Told.{Told}
@@ -148,11 +148,11 @@ abbrev pub unreported_tenths : ℕ
 unreported_tenths = 0
 
 unfoldable pub heard : ℕ → Delay → Heard
-heard number Unreported = record { number = number; reported = false; tenths = unreported_tenths }
-heard number (Reported d) = record { number = number; reported = true; tenths = d }
+heard number None = record { number = number; reported = false; tenths = unreported_tenths }
+heard number (Some d) = record { number = number; reported = true; tenths = d }
 
 unfoldable pub heard_at : Found → Ends → Heard
-heard_at unknown ends = heard 10 Unreported
+heard_at unknown ends = heard 10 None
 heard_at (known i n) ends = heard 0 (end_at ends i).head.delay
 
 -- a refused delay question shows unreported
@@ -160,7 +160,7 @@ unfoldable pub delay_call : List ℕ → List ℕ → OurSeid → Heard
 delay_call book saved s =
     let asked = heard_at (find s (book_of book)) (connection_in (length (book_of book)) saved).ends in
     let number = refusal_of book saved in
-    if eqb number 0 then asked else heard number Unreported
+    if eqb number 0 then asked else heard number None
 
 -- ---- status: book, 12, 10
 

@@ -53,6 +53,7 @@
 -- Demand 2's Start and Suspend ................................... Moves.Stopped, StoppedSeen
 -- Demand 3 ....................................................... Alike.alike, restrained, Begins, cleared, compared, Alike
 pub mod Octets
+pub mod Delays
 pub mod Elements
 pub mod Book
 pub mod Packets
@@ -61,6 +62,7 @@ pub mod Gathered
 pub mod Endpoints
 pub mod Saved
 pub mod Commands
+pub mod Refusals
 pub mod Host
 pub mod Bursts
 pub mod Calls

@@ -11,8 +11,8 @@ use Rattle.rules.specs.Sessions.{Call, check, fresh, packet, event, settings, de
 use Rattle.rules.specs.Sessions.{shown, heard, counted, cut_off, Done, stands, status, burst, told_each}
 use Rattle.rules.specs.declared.OurSeid.{OurSeid}
 use Rattle.rules.specs.declared.Told.{Told}
-use Rattle.rules.specs.declared.Delay.{Delay}
-use Rattle.rules.specs.declared.Delay.TheVariants.{Unreported}
+use Rattle.rules.specs.Delays.{Delay}
+use Rattle.std.specs.Prelude.{None}
 use Rattle.rules.specs.declared.Head.{Head}
 use Rattle.rules.specs.declared.Event.{Event}
 use Rattle.rules.specs.declared.Event.TheVariants.{Up, Down, Lost}
@@ -62,7 +62,7 @@ refused_with (packet size p reply) n = told (nothing_said n) reply
 refused_with (burst size octets lengths reply) n = told_each (none_told n) reply
 refused_with (event e) n = number n
 refused_with (settings s) n = shown (record { number = n; part = [] })
-refused_with (delay s) n = heard (Host.heard n Unreported)
+refused_with (delay s) n = heard (Host.heard n None)
 refused_with (status s) n = stands (Host.nowhere n)
 refused_with (packets size length) n = counted 0
 refused_with (cut size m k area) n = cut_off (record { piece = record { number = n; length = 0 }; area = area })

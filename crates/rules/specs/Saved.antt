@@ -1,6 +1,7 @@
 -- The saved connection: where everything lies in the lent octets, how a connection is read from them and stored into them, and
 -- what of the octets counts (document 01, What the host is told: number 12; the layout is ours).
-use Rattle.std.specs.Prelude.{ℕ, zero, suc, ◌+◌, ◌*◌, ◌/◌, ◌%◌, List, [], ◌∷◌, ◌++◌, Bool, true, ◌&&◌, ◌||◌, length, take, drop, get_or, leb, eqb, if◌then◌else◌}
+use Rattle.std.specs.Prelude.{ℕ, zero, suc, ◌+◌, ◌*◌, ◌/◌, ◌%◌, List, [], ◌∷◌, ◌++◌, Bool, true, ◌&&◌, ◌||◌, length, take, drop}
+use Rattle.std.specs.Prelude.{get_or, leb, eqb, if◌then◌else◌}
 use Rattle.std.proofs.Math.Option.{Option, none, some}
 use Rattle.rules.specs.Octets.{same_octets, front}
 use Rattle.rules.specs.Book.{Book}
@@ -10,8 +11,8 @@ use Rattle.rules.specs.declared.State.{State}
 use Rattle.rules.specs.declared.State.TheVariants.{Idle, Configured, Open, Streaming, Closing, Aborting}
 use Rattle.rules.specs.declared.Channel.{Channel}
 use Rattle.rules.specs.declared.Channel.TheVariants.{Absent, Awaited, Up}
-use Rattle.rules.specs.declared.Delay.{Delay}
-use Rattle.rules.specs.declared.Delay.TheVariants.{Unreported, Reported}
+use Rattle.rules.specs.Delays.{Delay}
+use Rattle.std.specs.Prelude.{None, Some}
 use Rattle.rules.specs.declared.Head.{Head}
 
 -- ---- The layout
@@ -145,15 +146,15 @@ channel_octet Awaited = 1
 channel_octet Up = 2
 
 abbrev pub delay_in : ℕ → ℕ → Delay
-delay_in mark tenths = if eqb mark 0 then Unreported else Reported tenths
+delay_in mark tenths = if eqb mark 0 then None else Some tenths
 
 abbrev pub delay_mark : Delay → ℕ
-delay_mark Unreported = 0
-delay_mark (Reported d) = 1
+delay_mark None = 0
+delay_mark (Some d) = 1
 
 abbrev pub delay_tenths : Delay → ℕ
-delay_tenths Unreported = 0
-delay_tenths (Reported d) = d
+delay_tenths None = 0
+delay_tenths (Some d) = d
 
 -- 16 bits, high octet first
 abbrev pub pair_in : ℕ → ℕ → ℕ

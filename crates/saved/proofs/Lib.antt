@@ -1,5 +1,3 @@
-pub mod Apart
 pub mod Configs
-pub mod Heads
 pub mod OneStore
 pub mod HeadMoved

@@ -11,8 +11,8 @@ use lib.ListN.{length, take, drop, get_or, set, length-append, take-append-drop}
 use lib.Seq.{drop-drop}
 use Rattle.rules.specs.Octets.{front}
 use Rattle.rules.specs.Endpoints.{end_at}
-use Rattle.rules.specs.Saved.{record_room, head_room, config_room, head_in, endpoint_in, head_octets, store_end, ends_in, store_ends}
-use Rattle.rules.specs.Saved.{record_right, records_right, record_at}
+use Rattle.rules.specs.Saved.{record_room, head_room, config_room, head_in, endpoint_in, head_octets, store_end, ends_in}
+use Rattle.rules.specs.Saved.{store_ends, record_right, records_right, record_at}
 use Rattle.rules.proofs.OneRecord.{end_at_lem, store_one}
 use Rattle.octets.specs.Patch.{patch, part}
 use Rattle.octets.proofs.Patches.{lent_front}
@@ -25,9 +25,11 @@ use Rattle.saved.proofs.Configs.{config_length, config_there}
 
 -- a write within one record
 within_record : (i : ℕ) (s l : List ℕ) → length s ≤ record_room
-    → take (i * record_room) l ++ (front s (record_at i l) ++ drop (i * record_room + record_room) l) ≡ patch (i * record_room) s l
+    → take (i * record_room) l ++ (front s (record_at i l) ++ drop (i * record_room + record_room) l)
+    ≡ patch (i * record_room) s l
 within_record i s l h =
-    ap (λ (x : List ℕ). take (i * record_room) l ++ (front s (record_at i l) ++ x)) (sym (drop-drop record_room (i * record_room) l))
+    ap (λ (x : List ℕ). take (i * record_room) l ++ (front s (record_at i l) ++ x))
+    (sym (drop-drop record_room (i * record_room) l))
     ∙ lent_front (i * record_room) record_room s l h
 
 head_and_config : (h : Head) (c : List ℕ) → length c ≤ config_room → length (head_octets h (length c) ++ c) ≤ record_room
@@ -62,13 +64,9 @@ head_alone at s c l e =
     ∙ ap (λ (x : List ℕ). take at l ++ x) (sym (append_assoc s c (drop (at + length s + length c) l)))
     ∙ ap (λ (k : ℕ). take at l ++ ((s ++ c) ++ drop k l)) (lengths_sum at s c)
 
--- reading and writing one record through a part that is lent
+-- writing one record through a part that is lent
 span : (i : ℕ) → i * 80 + 80 - i * 80 ≡ 80
 span i = omega arith
-
-pub get_by : (i : ℕ) (l : List ℕ) (h : Head) → h ≡ head_in (take (i * 80 + 80 - i * 80) (drop (i * 80) l)) → h
-    ≡ head_in (record_at i l)
-get_by i l h e = e ∙ ap (λ (k : ℕ). head_in (take k (drop (i * 80) l))) (span i)
 
 pub set_by : (i : ℕ) (l m : List ℕ) (h : Head) (n : ℕ)
     → m ≡ head_octets h n ++ drop head_room (take (i * 80 + 80 - i * 80) (drop (i * 80) l))

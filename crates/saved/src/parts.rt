@@ -5,6 +5,7 @@ ghost use Rattle.rules.specs.Saved.{count_room, records_place, count_in, link_of
 use rules::layout::{COUNT, COUNT_PLACE, LINK, RECORDS};
 
 // How many records there are.
+#[tactic(auto, unfolding(rules::specs::Saved::count_in))]
 pub fn count_in(saved: &[u8]) -> u8
     requires { count_room ≤ length saved.now }
     ensures { result ≡ count_in saved.now }
@@ -12,6 +13,7 @@ pub fn count_in(saved: &[u8]) -> u8
     saved[COUNT_PLACE]
 }
 
+#[tactic(auto, unfolding(rules::specs::Saved::link_of, octets::specs::Patch::part))]
 pub fn link_of(saved: &[u8]) -> &[u8]
     requires { records_place ≤ length saved.now }
     ensures { result.now ≡ link_of saved.now }
@@ -23,5 +25,5 @@ pub fn records_of(saved: &[u8]) -> &[u8]
     requires { records_place ≤ length saved.now }
     ensures { result.now ≡ records_of saved.now }
 {
-    octets::part(saved, RECORDS, saved.len() - RECORDS)
+    &saved[RECORDS..]
 }

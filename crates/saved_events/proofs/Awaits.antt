@@ -1,12 +1,7 @@
 -- Channel up over the records: what the heads show is what the endpoints show, and the first that awaits is moved.
-use Prim.Native.Nat.{ℕ, ◌+◌, ◌*◌, ◌<◌}
-use mathlib.Core.Path.{◌≡◌, sym, ap, ap₂, ◌∙◌, subst}
-use mathlib.Core.List.{List}
-use mathlib.Core.Bool.{Bool, true, false}
+use Rattle.std.proofs.Common.{ℕ, ◌+◌, ◌*◌, ◌<◌, ◌≡◌, sym, ap, ap₂, ◌∙◌, subst, List, Bool, true, false, arith, length, ne_eqb}
+use Rattle.std.proofs.Common.{eq-eqb}
 use native.Mathlib.Decide.{dec_lt}
-use native.Mathlib.Omega.{arith}
-use lib.ListN.{length}
-use borrow.Author.Tests.{ne_eqb, eq-eqb}
 use Rattle.rules.specs.Endpoints.{Ends, end_at, is_awaited, awaiting, up_in, with_channel}
 use Rattle.rules.specs.Saved.{record_room, head_in, head_octets, ends_in, store_ends, record_at}
 use Rattle.rules.specs.declared.Channel.TheVariants.{Up}

@@ -1,12 +1,7 @@
 -- Link lost over the records: after i turns the first i are idle and the rest are as they were, by induction on the records
 -- before.
-use Prim.Native.Nat.{ℕ, zero, suc, ◌+◌, ◌*◌, ◌≤◌}
-use mathlib.Core.Path.{◌≡◌, refl, sym, ap, ap₂, ◌∙◌}
-use mathlib.Core.List.{List, ◌++◌}
-use native.Mathlib.Numerals.{add-one}
-use native.Mathlib.Omega.{arith}
-use lib.Dec.{lit≤}
-use lib.ListN.{length, take, drop, length-drop}
+use Rattle.std.proofs.Common.{ℕ, zero, suc, ◌+◌, ◌*◌, ◌≤◌, ◌≡◌, refl, sym, ap, ap₂, ◌∙◌, List, ◌++◌, add-one, arith, lit≤, length}
+use Rattle.std.proofs.Common.{take, drop, length-drop}
 use lib.Seq.{drop-append-add}
 use Rattle.rules.specs.Octets.{front}
 use Rattle.rules.specs.Endpoints.{forgotten, idle_head, idle}

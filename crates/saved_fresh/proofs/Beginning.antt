@@ -1,12 +1,8 @@
 -- The records of a fresh connection entry by entry: at a turn, those written and those still to be written make up the whole, and
 -- a head that is written moves the seam between them behind its record.
-use Prim.Native.Nat.{ℕ, suc, ◌+◌, ◌-◌, ◌*◌, ◌≤◌}
-use mathlib.Core.Path.{◌≡◌, refl, sym, ap, ap₂, ◌∙◌, subst}
-use mathlib.Core.List.{List, ◌++◌, append_assoc}
-use native.Mathlib.Omega.{arith}
-use lib.Dec.{lit≤}
-use lib.ListN.{length, take, drop, get_or, length-append, length-take, length-drop, take-append-drop}
-use lib.Seq.{take_at, drop_at}
+use Rattle.std.proofs.Common.{ℕ, suc, ◌+◌, ◌-◌, ◌*◌, ◌≤◌, ◌≡◌, refl, sym, ap, ap₂, ◌∙◌, subst, List, ◌++◌, append_assoc, arith}
+use Rattle.std.proofs.Common.{lit≤, length, take, drop, get_or, length-append, length-take, length-drop, take-append-drop}
+use Rattle.std.proofs.Common.{take_at, drop_at}
 use Rattle.rules.specs.Octets.{front}
 use Rattle.rules.specs.Book.{Book, book_number, entries_in, book_of}
 use Rattle.rules.specs.Endpoints.{Ends, idle_head, idle, fresh_ends, fresh_connection}
@@ -17,7 +13,7 @@ use Rattle.rules.proofs.SavedReads.{front_length}
 use Rattle.octets.specs.Patch.{patch}
 use Rattle.octets.proofs.Patches.{lent_front}
 use Rattle.book.proofs.Entries.{RightEntries, right_head}
-use Rattle.book.proofs.Found.{entries_first, book_length}
+use Rattle.book.proofs.Found.{entries_first, all_counted}
 
 -- ---- One record
 
@@ -48,11 +44,8 @@ stored_behind i s l ends short room =
 
 -- ---- The entries that are left, from a place of the book on
 
-pub all_left : (b : List ℕ) (n : ℕ) → book_number b ≡ 0 → n ≡ length (book_of b) → RightEntries (n - 0) b 6
-all_left b n right e =
-    let counted = book_length b in
-    let all : get_or b 5 0 ≡ n - 0 = omega arith in
-    subst (λ k. RightEntries k b 6) all (right_head b right).entries
+pub all_left : (b : List ℕ) → book_number b ≡ 0 → RightEntries (length (book_of b) - 0) b 6
+all_left b right = subst (λ k. RightEntries k b 6) (all_counted b (length (book_of b)) refl) (right_head b right).entries
 
 -- the records once those that are left are written too
 abbrev pub begun_by : ℕ → List ℕ → ℕ → ℕ → List ℕ → List ℕ
@@ -62,16 +55,15 @@ begun_by left b at i l = stored_from i (fresh_ends (entries_in left (drop at b))
 abbrev pub begun_all : List ℕ → List ℕ → List ℕ
 begun_all b l = store_ends (fresh_connection (book_of b)).ends l
 
-pub none_begun : (b l : List ℕ) (n : ℕ) → n ≡ length (book_of b) → begun_by (n - 0) b 6 0 l ≡ begun_all b l
+pub none_begun : (b l : List ℕ) → begun_by (length (book_of b) - 0) b 6 0 l ≡ begun_all b l
 unfolding book_of fresh_connection
-none_begun b l n e =
-    let counted = book_length b in
-    let all : n - 0 ≡ get_or b 5 0 = omega arith in
-    ap (λ (k : ℕ). store_ends (fresh_ends (entries_in k (drop 6 b))) l) all
+none_begun b l =
+    sym (ap (λ (k : ℕ). store_ends (fresh_ends (entries_in k (drop 6 b))) l) (all_counted b (length (book_of b)) refl))
 
 -- the head of one record is written
 pub one_begun : (n left : ℕ) (b : List ℕ) (at i : ℕ) (l m : List ℕ) (h : Head) {whole : List ℕ} → left ≡ suc n
-    → (i + 1) * record_room ≤ length l → h ≡ idle_head (record { 0 = get_or b at 0 }) → m ≡ patch (i * record_room) (head_octets h 0) l
+    → (i + 1) * record_room ≤ length l → h ≡ idle_head (record { 0 = get_or b at 0 })
+    → m ≡ patch (i * record_room) (head_octets h 0) l
     → begun_by left b at i l ≡ whole → begun_by n b (at + 3 + get_or b (at + 2) 0) (i + 1) m ≡ whole
 unfolding head_octets store_ends fresh_ends
 one_begun n left b at i l m h e room made stored inv =

@@ -3,9 +3,9 @@ use Prim.Native.Nat.{ℕ, ◌≤◌, ◌<◌}
 use native.Mathlib.Omega.{arith}
 use mathlib.Core.Path.{◌≡◌}
 use mathlib.Core.List.{List}
-use mathlib.Core.Bool.{true, false, ◌&&◌}
+use mathlib.Core.Bool.{true, false}
 use lib.ListN.{length, get_or}
-use lib.Dec.{leb, ltb}
+use lib.Dec.{leb}
 use borrow.Author.Tests.{le-leb, lt-leb, ne_eqb}
 use Rattle.rules.specs.Octets.{between}
 use Rattle.rules.specs.Packets.{longest, gathering_right}
@@ -13,7 +13,7 @@ use Rattle.rules.specs.Endpoints.{legal_gathering}
 use Rattle.rules.specs.Saved.{gathering_room, gathering_at, gathering_in, gathering_octets_right, payload_length_in}
 use Rattle.rules.proofs.Tests.{and-true}
 use Rattle.packets_next.proofs.Rooms.{payload_length}
-use Rattle.saved_gathering.specs.Room.{room_legal}
+use Rattle.saved_gathering.specs.Room.{head_right, room_legal}
 
 module _ (room : List ℕ) where
   pub none_legal : get_or room 0 0 ≡ 0 → true ≡ room_legal room
@@ -30,10 +30,9 @@ module _ (room : List ℕ) where
     too_long h = rw (mark, lt-leb (payload_length_in room) 512 h)
 
     pub head_legal : length room ≡ gathering_room → payload_length_in room ≤ 512 → get_or room 4 0 < 256
-        → leb 2 (get_or room 4 0) && leb 1 (get_or room 5 0) && ltb (get_or room 5 0) (get_or room 4 0) && ltb (get_or room 1 0) 16
-        && ltb (get_or room 2 0) 4 && ltb (get_or room 3 0) 64
-        ≡ room_legal room
-    unfolding room_legal gathering_octets_right gathering_in legal_gathering gathering_right gathering_at longest between
+        → head_right room ≡ room_legal room
+    unfolding head_right room_legal gathering_octets_right gathering_in legal_gathering gathering_right gathering_at longest
+        between
     head_legal long fits octet =
         rw (
           mark,

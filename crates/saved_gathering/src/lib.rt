@@ -1,32 +1,24 @@
 // The room of a gathering.
 #![tactic(auto)]
 
-ghost use Rattle.std.specs.Prelude.{◌≡◌, ◌&&◌, length, leb, ltb};
+ghost use Rattle.std.specs.Prelude.{◌≡◌, length};
 ghost use Rattle.rules.specs.Saved.{gathering_room};
-ghost use Rattle.saved_gathering.specs.Room.{room_legal};
+ghost use Rattle.saved_gathering.specs.Room.{head_right, room_legal};
 
 use rules::layout::{LABEL, LENGTH_HIGH, LENGTH_LOW, MARK, MTYPE, PACKETS, PARTS, SIGNAL};
 
 // Whether the octets in front of the payload keep to their limits.
-fn head_right(label: u8, mtype: u8, signal: u8, count: u8, parts: u8) -> bool
-    ensures { result ≡ (leb 2 count && leb 1 parts && ltb parts count && ltb label 16 && ltb mtype 4 && ltb signal 64) }
+#[tactic(auto, unfolding(crate::specs::Room::head_right))]
+fn head_right(room: &[u8]) -> bool
+    requires { length room.now ≡ gathering_room }
+    ensures { result ≡ head_right room.now }
 {
-    if count < 2 {
-        return false;
-    }
-    if parts < 1 {
-        return false;
-    }
-    if count <= parts {
-        return false;
-    }
-    if 16 <= label {
-        return false;
-    }
-    if 4 <= mtype {
-        return false;
-    }
-    signal < 64
+    2 <= room[PACKETS]
+        && 1 <= room[PARTS]
+        && room[PARTS] < room[PACKETS]
+        && room[LABEL] < 16
+        && room[MTYPE] < 4
+        && room[SIGNAL] < 64
 }
 
 // Whether the room holds no gathering, or one within its limits.
@@ -34,20 +26,9 @@ pub fn room_legal(room: &[u8]) -> bool
     requires { length room.now ≡ gathering_room }
     ensures { result ≡ room_legal room.now }
 {
-    if room[MARK] == 0 {
-        return true;
+    match room[MARK] {
+        0 => true,
+        1 => u16::from_be_bytes([room[LENGTH_HIGH], room[LENGTH_LOW]]) <= 512 && head_right(room),
+        _ => false,
     }
-    if room[MARK] != 1 {
-        return false;
-    }
-    if 512 < room[LENGTH_HIGH] as u16 * 256 + room[LENGTH_LOW] as u16 {
-        return false;
-    }
-    head_right(
-        room[LABEL],
-        room[MTYPE],
-        room[SIGNAL],
-        room[PACKETS],
-        room[PARTS],
-    )
 }

@@ -4,7 +4,7 @@ use Rattle.rules.specs.Elements.{items, has, could_store}
 use Rattle.rules.specs.Book.{is_source}
 use Rattle.rules.specs.Endpoints.{is_reported, far_right}
 use Rattle.rules.specs.declared.FarSeid.{FarSeid}
-use Rattle.rules.specs.declared.Delay.{Delay}
+use Rattle.rules.specs.Delays.{Delay}
 
 -- what an endpoint keeps that is not idle, by the list and the kind of its entry
 unfoldable pub settings_right : List ℕ → ℕ → FarSeid → List ℕ → Delay → Bool

@@ -6,59 +6,47 @@ ghost use Rattle.std.specs.Prelude.{◌≡◌, not, ◌&&◌, ◌||◌, eqb};
 ghost use Rattle.rules.specs.Elements.{items, has};
 ghost use Rattle.rules.specs.Book.{is_source};
 ghost use Rattle.rules.specs.Endpoints.{is_reported};
-ghost use Rattle.elements_reader.specs.Orders.{TransportFirst};
 ghost use Rattle.saved_keeps.specs.Settings.{settings_right};
 
 use elements_offers::offers;
+use elements_reader::Offer;
 use elements_storable::could_store;
-use rules::{Delay, FarSeid};
+use rules::FarSeid;
 use saved_states::far_right;
 
 // Whether a delay can be reported: to a source whose configuration has category 8, which has no value.
+#[tactic(auto, unfolding(rules::specs::Book::is_source))]
 pub fn takes_delay(kind: u8, config: &[u8]) -> bool
     ensures { result ≡ is_source kind && has 8 (items config.now) }
 {
-    if kind / 8 % 2 != 0 {
-        return false;
-    }
-    offers(config, 0, 8, b"")
+    kind / 8 % 2 == 0 && offers(config, 0, 8, b"")
 }
 
 // Whether the delay may be there.
-fn delay_right(delay: Delay, kind: u8, config: &[u8]) -> bool
+#[tactic(auto, unfolding(rules::specs::Endpoints::is_reported))]
+fn delay_right(delay: Option<u16>, kind: u8, config: &[u8]) -> bool
     ensures { result ≡ (not (is_reported delay) || (is_source kind && has 8 (items config.now))) }
 {
-    match delay {
-        Delay::Unreported => true,
-        Delay::Reported(_) => takes_delay(kind, config),
-    }
+    delay.is_none() || takes_delay(kind, config)
 }
 
-pub fn keeps_nothing(far: FarSeid, length: u8, delay: Delay) -> bool
+#[tactic(auto, unfolding(rules::specs::Endpoints::is_reported))]
+pub fn keeps_nothing(far: FarSeid, length: u8, delay: Option<u16>) -> bool
     ensures { result ≡ (eqb far.0 0 && eqb length 0 && not (is_reported delay)) }
 {
-    if far.0 != 0 {
-        return false;
-    }
-    if length != 0 {
-        return false;
-    }
-    match delay {
-        Delay::Unreported => true,
-        Delay::Reported(_) => false,
-    }
+    far.0 == 0 && length == 0 && delay.is_none()
 }
 
-// What an endpoint that offers the list `caps` keeps while it is not idle.
-pub fn keeps_settings(caps: &[u8], kind: u8, far: FarSeid, config: &[u8], delay: Delay) -> bool
-    requires { TransportFirst caps.now }
-    ensures { result ≡ settings_right caps.now kind far config.now delay }
+// What an endpoint of this offer keeps while it is not idle.
+#[tactic(auto, unfolding(crate::specs::Settings::settings_right))]
+pub fn keeps_settings(
+    offer: Offer<'_>,
+    kind: u8,
+    far: FarSeid,
+    config: &[u8],
+    delay: Option<u16>,
+) -> bool
+    ensures { result ≡ settings_right offer.entry.list.now kind far config.now delay }
 {
-    if !far_right(far) {
-        return false;
-    }
-    if !could_store(caps, config, 0) {
-        return false;
-    }
-    delay_right(delay, kind, config)
+    far_right(far) && could_store(offer, config, 0) && delay_right(delay, kind, config)
 }

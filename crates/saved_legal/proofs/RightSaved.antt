@@ -1,19 +1,13 @@
 -- The saved area as a whole: its parts are tested apart, and what the test tells where it passes.
-use Prim.Native.Nat.{ℕ, ◌+◌, ◌*◌, ◌≤◌, ◌<◌}
-use native.Mathlib.Nat.{zero-add}
-use native.Mathlib.Omega.{arith}
-use mathlib.Core.Path.{◌≡◌, refl, sym, ap, ◌∙◌}
-use mathlib.Core.List.{List}
-use mathlib.Core.Bool.{Bool, true, false, ◌&&◌}
-use lib.ListN.{length}
-use lib.Dec.{leb, eqb}
-use borrow.Author.Tests.{leb-true, le-leb, lt-leb, eqb-true, eq-eqb, ne_eqb}
+use Rattle.std.proofs.Common.{ℕ, ◌+◌, ◌-◌, ◌*◌, ◌≤◌, zero-add, arith, ◌≡◌, refl, sym, ap, ◌∙◌, List, Bool, true, false, ◌&&◌}
+use Rattle.std.proofs.Common.{length, length-take, length-drop, leb, eqb, leb-true, eqb-true}
 use Rattle.rules.specs.Octets.{octets_in}
 use Rattle.rules.specs.Book.{Book, book_number, book_of}
 use Rattle.rules.specs.Endpoints.{legal_ends, awaiting, legal_gathering, legal}
 use Rattle.rules.specs.Saved.{records_place, record_room, area_for, count_in, link_of, records_of, ends_in, records_right}
-use Rattle.rules.specs.Saved.{gathering_in, gathering_octets_right, connection_in, saved_right}
-use Rattle.rules.proofs.Tests.{and_l, and_r, and-false}
+use Rattle.rules.specs.Saved.{gathering_room, gathering_in, gathering_octets_right, connection_in, saved_right}
+use Rattle.rules.proofs.RightBook.{right_book}
+use Rattle.rules.proofs.Tests.{and_l, and_r}
 use Rattle.rules.proofs.SavedReads.{octets_drop, gathering_room_lem, records_room}
 use Rattle.packets_next.specs.Rooms.{RoomRight}
 use Rattle.saved.specs.Held.{Held}
@@ -23,9 +17,22 @@ use Rattle.saved_legal.specs.Legal.{records_legal}
 
 -- ---- The parts
 
+-- a right book has few entries
+pub few_entries : (b : List ℕ) → book_number b ≡ 0 → length (book_of b) ≤ 16
+few_entries b right = (right_book b right).few
+
+pub link_long : (l : List ℕ) → records_place ≤ length l → length (link_of l) ≡ gathering_room
+unfolding link_of
+link_long l h = simp (length-take, length-drop) (omega arith)
+
+pub records_long : (l : List ℕ) → length (records_of l) ≡ length l - records_place
+unfolding records_of
+records_long l = length-drop records_place l
+
 apart : (k a g r e w l : Bool)
-    → (((k && a) && g) && r) && ((e && w) && l) ≡ k && (a && ((g && l) && ((r && e) && w)))
-apart false a g r e w l = refl
+    → (((k && a) && g) && r) && ((e && w) && l) ≡ a && k && (g && l) && ((r && e) && w)
+apart false false g r e w l = refl
+apart false true g r e w l = refl
 apart true false g r e w l = refl
 apart true true false r e w l = refl
 apart true true true false e w true = refl
@@ -37,47 +44,26 @@ apart true true true true true false false = refl
 apart true true true true true true true = refl
 apart true true true true true true false = refl
 
-by_parts : (book : Book) (l : List ℕ)
+-- in the order in which the code tests them
+pub by_parts : (book : Book) (l : List ℕ)
     → saved_right book l
-    ≡ eqb (count_in l) (length book)
-    && (leb (area_for (length book)) (length l)
-    && (room_legal (link_of l) && records_legal book (length book) 0 (records_of l)))
-unfolding saved_right legal connection_in room_legal records_legal
+    ≡ leb (records_place + length book * record_room) (length l) && eqb (count_in l) (length book) && room_legal (link_of l)
+    && records_legal book (length book) 0 (records_of l)
+unfolding saved_right legal connection_in room_legal records_legal area_for
 by_parts book l =
     let n = length book in
     let records = records_of l in
     let room = link_of l in
-    apart (eqb (count_in l) n) (leb (area_for n) (length l)) (gathering_octets_right room) (records_right n records)
-    (legal_ends book (ends_in n records)) (leb (awaiting (ends_in n records)) 1) (legal_gathering (gathering_in room))
-    ∙ ap (λ (k : ℕ). eqb (count_in l) n && (leb (area_for n) (length l)
-    && ((gathering_octets_right room && legal_gathering (gathering_in room))
-    && (records_right n records && legal_ends book (ends_in n records) && leb k 1))))
+    apart (eqb (count_in l) n) (leb (records_place + n * record_room) (length l)) (gathering_octets_right room)
+    (records_right n records) (legal_ends book (ends_in n records)) (leb (awaiting (ends_in n records)) 1)
+    (legal_gathering (gathering_in room))
+    ∙ ap (λ (k : ℕ). leb (records_place + n * record_room) (length l) && eqb (count_in l) n
+    && (gathering_octets_right room && legal_gathering (gathering_in room))
+    && (records_right n records && legal_ends book (ends_in n records) && leb k 1))
     (sym (zero-add (awaiting (ends_in n records))))
 
--- ---- The tests of the code
-
-module _ (book : Book) (l : List ℕ) (n : ℕ) (e : n ≡ length book) where
-  pub too_short : length l < records_place + n * record_room → false ≡ saved_right book l
-  unfolding area_for
-  too_short h =
-      sym (by_parts book l ∙ rw (lt-leb (area_for (length book)) (length l) (omega arith))
-      (and-false (eqb (count_in l) (length book))))
-
-  pub count_wrong : (count_in l ≡ n → ⊥) → false ≡ saved_right book l
-  count_wrong f = sym (by_parts book l ∙ rw (← e, ne_eqb (count_in l) n f))
-
-  module _ (h : records_place + n * record_room ≤ length l) (counted : count_in l ≡ n) where
-    begins_right : saved_right book l ≡ room_legal (link_of l) && records_legal book (length book) 0 (records_of l)
-    unfolding area_for
-    begins_right =
-        by_parts book l
-        ∙ rw (eq-eqb (count_in l) (length book) (counted ∙ e), le-leb (area_for (length book)) (length l) (omega arith))
-
-    pub room_wrong : room_legal (link_of l) ≡ false → false ≡ saved_right book l
-    room_wrong f = sym (begins_right ∙ rw f)
-
-    pub records_decide : room_legal (link_of l) ≡ true → records_legal book (length book) 0 (records_of l) ≡ saved_right book l
-    records_decide t = sym (begins_right ∙ rw t)
+-- all that the test of an area goes by
+pub ruleset parts = (few_entries, link_long, records_long, by_parts)
 
 -- ---- What a right saved area holds
 

@@ -1,5 +1,7 @@
 -- The legality of the records part by part, as the code tests it: one record, and all records with the channels that they await.
 use Rattle.std.specs.Prelude.{ℕ, ◌+◌, List, Bool, ◌&&◌, ◌||◌, take, get_or, leb, eqb, if◌then◌else◌}
+use Rattle.std.specs.Prelude.{None, Some}
+use Rattle.std.specs.declared.option.Option.{Option}
 use Rattle.rules.specs.Octets.{same_octets}
 use Rattle.rules.specs.Book.{Entry, Book}
 use Rattle.rules.specs.Endpoints.{idle_head, is_awaited, legal_end, legal_ends, awaiting}
@@ -26,6 +28,10 @@ idles_in s r = same_octets (take head_room r) (head_octets (idle_head s) 0)
 
 unfoldable pub record_legal : Entry → List ℕ → Bool
 record_legal n r = record_right r && legal_end n (endpoint_in r)
+
+-- the channels that a legal record awaits
+unfoldable pub awaited_in : Entry → List ℕ → Option ℕ
+awaited_in n r = if record_legal n r then Some (awaits_in (get_or r channel_place 0)) else None
 
 -- n records of the entries of a book, behind records that await some channels
 unfoldable pub records_legal : Book → ℕ → ℕ → List ℕ → Bool

@@ -5,26 +5,21 @@
 mod records;
 
 ghost use Rattle.std.specs.Prelude.{◌≡◌};
-ghost use Rattle.rules.specs.Book.{book_number, book_of};
+ghost use Rattle.rules.specs.Book.{book_of};
 ghost use Rattle.rules.specs.Saved.{saved_right};
 
-use book::places::count;
+use book::places::RightBook;
 use rules::layout::{RECORD, RECORDS};
 use saved::parts::{count_in, link_of, records_of};
+use saved_gathering::room_legal;
 
-pub fn saved_right(book: &[u8], saved: &[u8]) -> bool
-    requires { book_number book.now ≡ 0 }
-    ensures { result ≡ saved_right (book_of book.now) saved.now }
+#[tactic(auto, using(crate::proofs::RightSaved::parts))]
+pub fn saved_right(book: RightBook<'_>, saved: &[u8]) -> bool
+    ensures { result ≡ saved_right (book_of book.entry.octets.now) saved.now }
 {
-    let entries = count(book);
-    if saved.len() < RECORDS + entries * RECORD {
-        return false;
-    }
-    if count_in(saved) as usize != entries {
-        return false;
-    }
-    if !saved_gathering::room_legal(link_of(saved)) {
-        return false;
-    }
-    records::records_legal(book, records_of(saved))
+    let entries = book.count();
+    RECORDS + entries * RECORD <= saved.len()
+        && count_in(saved) as usize == entries
+        && room_legal(link_of(saved))
+        && records::records_legal(book, records_of(saved))
 }

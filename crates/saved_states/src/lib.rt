@@ -11,112 +11,63 @@ use rules::{Channel, FarSeid, State};
 pub fn is_idle(state: State) -> bool
     ensures { result ≡ is_idle state }
 {
-    match state {
-        State::Idle => true,
-        State::Configured => false,
-        State::Open => false,
-        State::Streaming => false,
-        State::Closing => false,
-        State::Aborting => false,
-    }
+    state == State::Idle
 }
 
 #[tactic(auto, unfolding(rules::specs::Commands::is_configured))]
 pub fn is_configured(state: State) -> bool
     ensures { result ≡ is_configured state }
 {
-    match state {
-        State::Idle => false,
-        State::Configured => true,
-        State::Open => false,
-        State::Streaming => false,
-        State::Closing => false,
-        State::Aborting => false,
-    }
+    state == State::Configured
 }
 
 #[tactic(auto, unfolding(rules::specs::Commands::is_open))]
 pub fn is_open(state: State) -> bool
     ensures { result ≡ is_open state }
 {
-    match state {
-        State::Idle => false,
-        State::Configured => false,
-        State::Open => true,
-        State::Streaming => false,
-        State::Closing => false,
-        State::Aborting => false,
-    }
+    state == State::Open
 }
 
 #[tactic(auto, unfolding(rules::specs::Commands::is_streaming))]
 pub fn is_streaming(state: State) -> bool
     ensures { result ≡ is_streaming state }
 {
-    match state {
-        State::Idle => false,
-        State::Configured => false,
-        State::Open => false,
-        State::Streaming => true,
-        State::Closing => false,
-        State::Aborting => false,
-    }
+    state == State::Streaming
 }
 
 // Configured, open or streaming.
-#[tactic(auto, unfolding(rules::specs::Commands::is_set, rules::specs::Commands::is_configured, rules::specs::Commands::is_open, rules::specs::Commands::is_streaming))]
+#[tactic(auto, unfolding(rules::specs::Commands::is_set))]
 pub fn is_set(state: State) -> bool
     ensures { result ≡ is_set state }
 {
-    match state {
-        State::Idle => false,
-        State::Configured => true,
-        State::Open => true,
-        State::Streaming => true,
-        State::Closing => false,
-        State::Aborting => false,
-    }
+    is_configured(state) || is_open(state) || is_streaming(state)
 }
 
 #[tactic(auto, unfolding(rules::specs::Endpoints::is_absent))]
 pub fn is_absent(channel: Channel) -> bool
     ensures { result ≡ is_absent channel }
 {
-    match channel {
-        Channel::Absent => true,
-        Channel::Awaited => false,
-        Channel::Up => false,
-    }
+    channel == Channel::Absent
 }
 
 #[tactic(auto, unfolding(rules::specs::Endpoints::is_awaited))]
 pub fn is_awaited(channel: Channel) -> bool
     ensures { result ≡ is_awaited channel }
 {
-    match channel {
-        Channel::Absent => false,
-        Channel::Awaited => true,
-        Channel::Up => false,
-    }
+    channel == Channel::Awaited
 }
 
 #[tactic(auto, unfolding(rules::specs::Endpoints::is_up))]
 pub fn is_up(channel: Channel) -> bool
     ensures { result ≡ is_up channel }
 {
-    match channel {
-        Channel::Absent => false,
-        Channel::Awaited => false,
-        Channel::Up => true,
-    }
+    channel == Channel::Up
 }
 
 // A far SEID is 1 to 62.
+#[tactic(auto, unfolding(rules::specs::Endpoints::far_right, rules::specs::Octets::between))]
 pub fn far_right(far: FarSeid) -> bool
     ensures { result ≡ far_right far }
 {
-    if far.0 < 1 {
-        return false;
-    }
-    far.0 <= 62
+    1 <= far.0 && far.0 <= 62
 }

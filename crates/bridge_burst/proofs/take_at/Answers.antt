@@ -6,5 +6,5 @@ use Rattle.bridge_burst.proofs.take_at.Goals as goal
 
 pub returns : goal.returns
 returns c =
-    slot_back c.args.book.now c.args.size c.args.saved.now c.args.packet.now c.args.from c.args.reply.now
+    slot_back c.args.book.octets.now c.args.size c.args.saved.now c.args.packet.now c.args.from c.args.reply.now
     (c.args.from + 64 - c.args.from) (omega arith) _ c.take.ensures

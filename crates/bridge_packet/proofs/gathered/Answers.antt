@@ -20,4 +20,8 @@ gather-requires c =
 pub returns : goal.returns
 unfolding gathered_area link_of
 returns c =
-    record { next = c.gather.ensures.next; saved = link_back c.args.saved.now _ ∙ ap (λ (x : List ℕ). with_link x c.args.saved.now) c.gather.ensures.room }
+    record {
+      next = c.gather.ensures.next;
+      saved =
+          link_back c.args.saved.now _ ∙ ap (λ (x : List ℕ). with_link x c.args.saved.now) c.gather.ensures.room;
+    }

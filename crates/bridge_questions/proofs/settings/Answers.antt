@@ -1,61 +1,45 @@
--- `settings` meets its contract: the refusal, then the configuration in the record of the endpoint that the SEID names, or what
--- its entry offers where there is none.
-use mathlib.Core.Path.{sym, ap, ◌∙◌}
+-- `settings` meets its contract: the configuration in the record of the endpoint that the SEID names, or what its entry offers
+-- where there is none.
+use Rattle.std.proofs.Common.{sym, ap, arith}
+use Rattle.std.proofs.lemmas.Grind.{common_steps}
 use Rattle.rules.specs.Host.{Shown}
-use Rattle.bridge_refusals.proofs.Refusing.{Calm, calm}
-use Rattle.bridge_questions.proofs.Asked.{refused_shown, missing_shown, record_there, config_fits, offer_inside}
+use Rattle.bridge_refusals.proofs.Refusing.{Calm}
+use Rattle.bridge_questions.proofs.Asked.{refused, answered, record_there, config_fits, offer_inside}
 use Rattle.bridge_questions.proofs.Asked.{offer_shown, config_shown}
 use Rattle.bridge_questions.proofs.settings.Goals as goal
-use Rattle.bridge_questions.proofs.settings.Goals.{Else-refusal-ne0}
+use Rattle.bridge_questions.proofs.settings.Goals.{In-Ok}
 
 -- nothing is refused
-quiet : (c : Else-refusal-ne0) → Calm c.args.book.now c.args.saved.now
-quiet c =
-    calm _ _ _ (λ i. (c.shared_slice_known-2-1.given i).fits) c.refusal.ensures c.if-refusal-ne0.false
+quiet : (c : In-Ok) → Calm c.args.book.now c.args.saved.now
+quiet c = answered _ _ c.args.seid (λ i. (c.type_inv.saved i).fits) c.in-Ok.ensures.number
 
-pub returns-then-refusal-ne0 : goal.returns-then-refusal-ne0
-returns-then-refusal-ne0 c =
-    sym (ap (λ (x : Shown). x.part)
-    (refused_shown c.args.book.now c.args.saved.now c.args.seid c.refusal.result c.refusal.ensures
-    c.if-refusal-ne0.true))
-
-pub locate-located-requires : goal.locate-located-requires
-locate-located-requires c =
-    (quiet (goal.at.locate-located-requires c).Else-refusal-ne0).numbered
+pub returns-in_default : goal.returns-in_default
+returns-in_default c =
+    sym (ap (λ (x : Shown). x.part) (refused c.args.book.now c.args.saved.now c.args.seid _ c.in_default.ensures.number).shown)
 
 pub records_of-requires : goal.records_of-requires
-records_of-requires c =
-    (quiet (goal.at.records_of-requires c).Else-refusal-ne0).long
+records_of-requires c = (quiet (goal.at.records_of-requires c).In-Ok).long
 
 pub config-config-requires : goal.config-config-requires
 config-config-requires c =
-    let there = sym c.locate-located.ensures ∙ c.in-Known.is in (
-      record_there c.args.book.now c.args.saved.now c.args.seid (quiet (goal.at.config-config-requires c).Else-refusal-ne0) _ _ _ _ there _
-          c.records_of.ensures,
-      config_fits c.args.book.now c.args.saved.now c.args.seid (quiet (goal.at.config-config-requires c).Else-refusal-ne0) _ _ _ _ there _
-          c.records_of.ensures,
+    let quiet = quiet (goal.at.config-config-requires c).In-Ok in (
+      record_there c.args.book.now c.args.saved.now c.args.seid quiet _ _ _ _ c.in-Ok.ensures.place _ c.records_of.ensures,
+      config_fits c.args.book.now c.args.saved.now c.args.seid quiet _ _ _ _ c.in-Ok.ensures.place _ c.records_of.ensures,
     )
 
 pub part-requires : goal.part-requires
 part-requires c =
-    offer_inside c.args.book.now c.args.saved.now c.args.seid (quiet (goal.at.part-requires c).Else-refusal-ne0) _ _ _ _
-    (sym c.locate-located.ensures ∙ c.in-Known.is) _ c.records_of.ensures
+    offer_inside c.args.book.now c.args.saved.now c.args.seid (quiet (goal.at.part-requires c).In-Ok) _ _ _ _
+    c.in-Ok.ensures.place _ c.records_of.ensures
 
-pub returns-in-Unknown : goal.returns-in-Unknown
-returns-in-Unknown c =
-    sym (ap (λ (x : Shown). x.part)
-    (missing_shown c.args.book.now c.args.saved.now c.args.seid (quiet (goal.at.returns-in-Unknown c).Else-refusal-ne0)
-    (sym c.locate-located.ensures ∙ c.in-Unknown.is)))
+pub returns-then-is_empty : goal.returns-then-is_empty
+returns-then-is_empty c =
+    offer_shown c.args.book.now c.args.saved.now c.args.seid (quiet (goal.at.returns-then-is_empty c).In-Ok) _ _ _ _
+    c.in-Ok.ensures.place _ c.records_of.ensures c.config-config.result.now c.part.result.now
+    c.config-config.ensures (grind (arith, common_steps)) c.part.ensures
 
-pub returns-then-config-eq0 : goal.returns-then-config-eq0
-returns-then-config-eq0 c =
-    offer_shown c.args.book.now c.args.saved.now c.args.seid (quiet (goal.at.returns-then-config-eq0 c).Else-refusal-ne0) _ _ _ _
-    (sym c.locate-located.ensures ∙ c.in-Known.is) _ c.records_of.ensures
-    c.config-config.result.now c.part.result.now
-    c.config-config.ensures c.if-config-eq0.true c.part.ensures
-
-pub returns-else-config-eq0 : goal.returns-else-config-eq0
-returns-else-config-eq0 c =
-    config_shown c.args.book.now c.args.saved.now c.args.seid (quiet (goal.at.returns-else-config-eq0 c).Else-refusal-ne0) _ _ _ _
-    (sym c.locate-located.ensures ∙ c.in-Known.is) _ c.records_of.ensures
-    c.config-config.result.now c.config-config.ensures c.if-config-eq0.false
+pub returns-else-is_empty : goal.returns-else-is_empty
+returns-else-is_empty c =
+    config_shown c.args.book.now c.args.saved.now c.args.seid (quiet (goal.at.returns-else-is_empty c).In-Ok) _ _ _ _
+    c.in-Ok.ensures.place _ c.records_of.ensures c.config-config.result.now c.config-config.ensures
+    (grind (arith, common_steps))

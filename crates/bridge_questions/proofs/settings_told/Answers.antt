@@ -1,34 +1,19 @@
--- `settings_told` meets its contract: the refusal, then whether the book has the SEID.
-use mathlib.Core.Path.{sym, ap, ◌∙◌}
+-- `settings_told` meets its contract: the number with which the place was not found, or 0.
+use Rattle.std.proofs.Common.{sym, ap, ◌∙◌}
 use Rattle.rules.specs.Host.{Shown}
-use Rattle.bridge_refusals.proofs.Refusing.{Calm, calm}
-use Rattle.bridge_questions.proofs.Asked.{refused_shown, missing_shown, there_shown}
+use Rattle.rules.proofs.Refusing.{handed_on}
+use Rattle.bridge_questions.proofs.Asked.{refused, answered, there_shown}
 use Rattle.bridge_questions.proofs.settings_told.Goals as goal
-use Rattle.bridge_questions.proofs.settings_told.Goals.{Else-number-ne0}
 
--- nothing is refused
-quiet : (c : Else-number-ne0) → Calm c.args.book.now c.args.saved.now
-quiet c =
-    calm _ _ _ (λ i. (c.shared_slice_known-2-1.given i).fits) c.refusal-number.ensures c.if-number-ne0.false
+pub returns-in_err-locate : goal.returns-in_err-locate
+returns-in_err-locate c =
+    handed_on _ c.in_err-locate.field-0.0 c.from_residual.ensures.1
+    ∙ sym (ap (λ (x : Shown). x.number)
+    (refused c.args.book.now c.args.saved.now c.args.seid _ c.in_err-locate.ensures.number).shown)
 
-pub returns-then-number-ne0 : goal.returns-then-number-ne0
-returns-then-number-ne0 c =
+pub returns : goal.returns
+returns c =
     sym (ap (λ (x : Shown). x.number)
-    (refused_shown c.args.book.now c.args.saved.now c.args.seid c.refusal-number.result c.refusal-number.ensures
-    c.if-number-ne0.true))
-
-pub locate-located-requires : goal.locate-located-requires
-locate-located-requires c =
-    (quiet (goal.at.locate-located-requires c).Else-number-ne0).numbered
-
-pub returns-in-Unknown : goal.returns-in-Unknown
-returns-in-Unknown c =
-    sym (ap (λ (x : Shown). x.number)
-    (missing_shown c.args.book.now c.args.saved.now c.args.seid (quiet (goal.at.returns-in-Unknown c).Else-number-ne0)
-    (sym c.locate-located.ensures ∙ c.in-Unknown.is)))
-
-pub returns-in-Known : goal.returns-in-Known
-returns-in-Known c =
-    sym (ap (λ (x : Shown). x.number)
-    (there_shown c.args.book.now c.args.saved.now c.args.seid (quiet (goal.at.returns-in-Known c).Else-number-ne0) _ _ _ _
-    (sym c.locate-located.ensures ∙ c.in-Known.is)))
+    (there_shown c.args.book.now c.args.saved.now c.args.seid
+    (answered _ _ c.args.seid (λ i. (c.type_inv.saved i).fits) c.in_ok-locate.ensures.number) _ _ _ _
+    c.in_ok-locate.ensures.place))

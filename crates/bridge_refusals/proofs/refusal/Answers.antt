@@ -1,25 +1,25 @@
 -- `refusal` meets its contract: the book's number goes before that of the saved area.
-use mathlib.Core.Path.{◌≡◌, sym, ◌∙◌}
-use Rattle.rules.specs.Book.{book_number}
+use Rattle.std.proofs.Common.{◌∙◌}
 use Rattle.rules.specs.Host.{refusal_of}
-use Rattle.bridge_refusals.proofs.Refusing.{book_first, book_passed}
+use Rattle.rules.proofs.Refusing.{handed_on}
+use Rattle.bridge_refusals.proofs.Refusing.{book_refused, book_passed, passed_saved}
 use Rattle.bridge_refusals.proofs.refusal.Goals as goal
-use Rattle.bridge_refusals.proofs.refusal.Goals.{Else-number-ne0}
 
--- the book is right
-numbered : (c : Else-number-ne0) → book_number c.args.book.now ≡ 0
-numbered c = sym c.check-number.ensures ∙ c.if-number-ne0.false
-
-pub returns-then-number-ne0 : goal.returns-then-number-ne0
+pub returns-in_err-right-clause-number : goal.returns-in_err-right-clause-number
 unfolding refusal_of
-returns-then-number-ne0 c =
-    book_first _ _ _ c.check-number.ensures c.if-number-ne0.true
+returns-in_err-right-clause-number c =
+    handed_on _ c.in_err-right.field-0.0 c.from_residual.ensures.1
+    ∙ book_refused _ _ _ c.in_err-right.ensures.number
 
-pub saved_number-requires : goal.saved_number-requires
-saved_number-requires c =
-    numbered (goal.at.saved_number-requires c).Else-number-ne0
-
-pub returns : goal.returns
+pub returns-in_err-saved_test-clause-number : goal.returns-in_err-saved_test-clause-number
 unfolding refusal_of
-returns c =
-    c.saved_number.ensures ∙ book_passed _ _ (numbered (goal.at.returns c).Else-number-ne0)
+returns-in_err-saved_test-clause-number c =
+    handed_on _ c.in_err-saved_test.field-0.0 c.from_residual-in_err-saved_test.ensures.1
+    ∙ passed_saved _ c.in_err-saved_test.ensures c.in_ok-right.ensures.right
+    ∙ book_passed _ _ c.in_ok-right.ensures.number
+
+pub returns-clause-number : goal.returns-clause-number
+unfolding refusal_of
+returns-clause-number c =
+    passed_saved _ c.in_ok-saved_test.ensures c.in_ok-right.ensures.right
+    ∙ book_passed _ _ c.in_ok-right.ensures.number

@@ -1,5 +1,5 @@
 -- `obey` meets its contract: an arm knows the signal, or that it names one endpoint.
-use mathlib.Core.Path.{sym, ◌∙◌}
+use Rattle.std.proofs.Common.{sym, refl, ◌∙◌}
 use Rattle.commands.proofs.Dispatch.{given_obeys, others_name_one, unassigned}
 use Rattle.commands.proofs.obey.Goals as goal
 
@@ -10,5 +10,5 @@ on_endpoint-requires c =
 
 pub returns-in-Unassigned : goal.returns-in-Unassigned
 returns-in-Unassigned c =
-    given_obeys c.args.book.now c.args.records.now c.args.payload.now c.args.reply.now
-    (sym c.signal_of-command.ensures ∙ c.in-Unassigned.is) (unassigned c.requires c.general.ensures)
+    given_obeys c.args.book.octets.now c.args.records.now c.args.payload.now c.args.reply.now
+    (sym c.signal_of-command.ensures ∙ c.in-Unassigned.is) (unassigned c.requires refl)

@@ -3,4 +3,4 @@ use Rattle.std.proofs.Common.{◌*◌, ◌≤◌}
 use Rattle.cuttings.proofs.lengths.Given as goal
 
 abbrev pub invariant-loop-length : goal.invariant-loop-length
-invariant-loop-length l = (l.length ≤ 513) × (l.tally.packets ≤ 300 * l.length) × (l.tally.different ≤ 300 * l.length)
+invariant-loop-length l = (l.tally.packets ≤ 300 * l.length) × (l.tally.different ≤ 300 * l.length)

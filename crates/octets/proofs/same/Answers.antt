@@ -1,64 +1,43 @@
--- `same` meets its contract: after i turns what is left to compare says whether all is the same.
-use Prim.Native.Nat.{ℕ, suc, ◌+◌, ◌<◌}
-use mathlib.Core.Path.{◌≡◌, refl, sym, ap, ap₂, ◌∙◌}
+-- `same` meets its contract: lists of one length are the same by their pairs, and others are not.
+use Prim.Native.Nat.{ℕ, suc}
+use mathlib.Core.Path.{◌≡◌, refl, sym, ap, ◌∙◌}
 use mathlib.Core.List.{List, [], ◌∷◌}
-use mathlib.Core.Bool.{Bool, true, false, ◌&&◌}
-use native.Mathlib.Numerals.{add-one}
+use mathlib.Core.Bool.{Bool, false, ◌&&◌}
 use native.Mathlib.Omega.{arith}
-use lib.ListN.{length, drop, get_or}
-use lib.Seq.{drop-cons, drop-length}
+use lib.ListN.{length}
 use lib.Dec.{eqb}
-use borrow.Author.Tests.{eq-eqb, ne_eqb}
+use borrow.Author.Tests.{ne_eqb}
+use Rattle.std.proofs.Common.{rules, tests}
+use Rattle.std.proofs.lemmas.Iterator.{YieldsList-from_slice, YieldsList-from_zip}
+use Rattle.std.proofs.lemmas.Iterator.Search.{all_from_yields_List}
+use Rattle.std.specs.List.{list_all, zip}
 use Rattle.rules.specs.Octets.{same_octets}
+use Rattle.rules.proofs.Tests.{and-false}
 use Rattle.octets.proofs.same.Goals as goal
 
--- not the same length, not the same octets
-other_length : (a b : List ℕ) → (length a ≡ length b → ⊥) → false ≡ same_octets a b
+by_pairs : (a b : List ℕ) → length a ≡ length b → list_all (λ (p : ℕ × ℕ). eqb p.0 p.1) (zip a b) ≡ same_octets a b
+unfolding same_octets
+by_pairs [] [] e = refl
+by_pairs [] (y ∷ b) e = absurd (omega arith)
+by_pairs (x ∷ a) [] e = absurd (omega arith)
+by_pairs (x ∷ a) (y ∷ b) e = ap (λ (t : Bool). eqb x y && t) (by_pairs a b (omega arith))
+
+other_length : (a b : List ℕ) → (length a ≡ length b → ⊥) → same_octets a b ≡ false
 unfolding same_octets
 other_length [] [] h = absurd (h refl)
 other_length [] (y ∷ b) h = refl
 other_length (x ∷ a) [] h = refl
-other_length (x ∷ a) (y ∷ b) h = go (eqb x y) (other_length a b (λ e. h (ap suc e)))
-  where
-    go : (t : Bool) → false ≡ same_octets a b → false ≡ t && same_octets a b
-    go true e = e
-    go false e = refl
-
--- one turn
-at_place : (a b : List ℕ) (i : ℕ) → i < length a → i < length b
-    → same_octets (drop i a) (drop i b) ≡ eqb (get_or a i 0) (get_or b i 0) && same_octets (drop (i + 1) a) (drop (i + 1) b)
-unfolding same_octets
-at_place a b i p q = rw (drop-cons a i 0 p, drop-cons b i 0 q, add-one)
-
-differs : (a b : List ℕ) (i : ℕ) → i < length a → i < length b → same_octets a b ≡ same_octets (drop i a) (drop i b)
-    → (get_or a i 0 ≡ get_or b i 0 → ⊥) → false ≡ same_octets a b
-differs a b i p q e h = sym
-    (e ∙ at_place a b i p q ∙ ap (λ (t : Bool). t && same_octets (drop (i + 1) a) (drop (i + 1) b)) (ne_eqb _ _ h))
-
-agrees : (a b : List ℕ) (i : ℕ) → i < length a → i < length b → same_octets a b ≡ same_octets (drop i a) (drop i b)
-    → get_or a i 0 ≡ get_or b i 0 → same_octets a b ≡ same_octets (drop (i + 1) a) (drop (i + 1) b)
-agrees a b i p q e h = e ∙ at_place a b i p q
-    ∙ ap (λ (t : Bool). t && same_octets (drop (i + 1) a) (drop (i + 1) b)) (eq-eqb _ _ h)
-
-all_compared : (a b : List ℕ) (i : ℕ) → length a ≡ length b → i ≡ length a → same_octets (drop i a) (drop i b) ≡ true
-unfolding same_octets
-all_compared a b i e f =
-    ap₂ same_octets (ap (λ (n : ℕ). drop n a) f ∙ drop-length a) (ap (λ (n : ℕ). drop n b) (f ∙ e) ∙ drop-length b)
+other_length (x ∷ a) (y ∷ b) h =
+    ap (λ (t : Bool). eqb x y && t) (other_length a b (λ e. h (ap suc e))) ∙ and-false (eqb x y)
 
 pub returns-then-a-b : goal.returns-then-a-b
 returns-then-a-b c =
-    other_length c.args.a.now c.args.b.now c.if-a-b.true
+    let a = c.args.a.now in
+    let b = c.args.b.now in
+    all_from_yields_List (λ (p : ℕ × ℕ). eqb p.0 p.1) c.all.new.self _ c.all.result c.all.ensures.ran
+    (YieldsList-from_zip (YieldsList-from_slice a cc) (YieldsList-from_slice b cc)) (λ x d q k. search (rules, tests))
+    ∙ by_pairs a b c.if-a-b.true
 
-pub returns-then-a-i : goal.returns-then-a-i
-returns-then-a-i c =
-    differs c.args.a.now c.args.b.now c.loop-i.i (omega arith) (omega arith) c.loop-i.invariant.1 c.if-a-i.true
-
-pub loop-i-preserved : goal.loop-i-preserved
-loop-i-preserved c = (
-  omega arith,
-  agrees c.args.a.now c.args.b.now c.loop-i.i (omega arith) (omega arith) c.loop-i.invariant.1 c.if-a-i.false,
-)
-
-pub returns : goal.returns
-returns c =
-    sym (c.loop-i.invariant.1 ∙ all_compared c.args.a.now c.args.b.now c.loop-i.i (omega arith) (omega arith))
+pub returns-else-a-b : goal.returns-else-a-b
+returns-else-a-b c =
+    ne_eqb _ _ c.if-a-b.false ∙ sym (other_length c.args.a.now c.args.b.now c.if-a-b.false)

@@ -1,16 +1,14 @@
 -- `add_part` meets its contract: the three stores are one patch, and `put` makes the other.
-use Prim.Native.Nat.{ℕ, ◌≤◌}
-use native.Mathlib.Omega.{arith}
-use mathlib.Core.Path.{◌≡◌, ap, ◌∙◌}
-use mathlib.Core.List.{List, [], ◌∷◌}
-use lib.ListN.{length, set, length-set}
+use Rattle.std.proofs.Common.{◌≡◌, ℕ, ◌+◌, ◌/◌, ◌%◌, ◌<◌, [], ◌∷◌, length, ap, ◌∙◌, arith}
+use Rattle.std.proofs.Math.ListN.{length-set}
 use Rattle.octets.specs.Patch.{patch}
 use Rattle.octets.proofs.Patches.{patch_sets}
 use Rattle.packets_gather.specs.Parts.{with_part}
 use Rattle.packets_gather.proofs.add_part.Goals as goal
 
-stores : (room : List ℕ) (a b c : ℕ) → 8 ≤ length room → set (set (set room 5 a) 6 b) 7 c ≡ patch 5 (a ∷ b ∷ c ∷ []) room
-stores room a b c h = patch_sets 5 (a ∷ b ∷ c ∷ []) room h
+-- the high octet of a length below 65536
+high : (n : ℕ) → n < 65536 → n / 256 % 256 ≡ n / 256
+high n small = omega arith
 
 pub put-requires : goal.put-requires
 put-requires c =
@@ -23,4 +21,7 @@ shape_of-room c =
 pub returns : goal.returns
 unfolding with_part
 returns c =
-    c.put.ensures ∙ ap (patch _ c.args.part.now) (stores c.args.room.now c.args.parts _ _ (omega arith))
+    let n = c.args.before + length c.args.part.now in
+    let octets = c.args.parts ∷ n / 256 ∷ n % 256 ∷ [] in
+    rw (c.put.ensures, c.to_be_bytes.ensures, high n (omega arith))
+    (ap (patch (8 + c.args.before) c.args.part.now) (patch_sets 5 octets c.args.room.now (omega arith)))

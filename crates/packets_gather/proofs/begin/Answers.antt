@@ -20,6 +20,5 @@ shape_of-room c =
 
 pub returns : goal.returns
 returns c =
-    c.add_part.ensures
-    ∙ begun_stored c.args.room.now c.args.packet.now _ c.requires.room_whole (omega (arith, c.type_inv.packet 0))
-    (behind_whole 3 c.args.packet.now)
+    rw (c.add_part.ensures, c.header_in-header.ensures)
+    (begun_stored c.args.room.now c.args.packet.now _ c.requires.room_whole (behind_whole 3 c.args.packet.now))

@@ -1,12 +1,7 @@
 -- `read` meets its contract: after k turns the first k octets stand at the front.
-use Prim.Native.Nat.{ℕ, zero, suc, ◌+◌, ◌%◌, ◌<◌}
-use mathlib.Core.Path.{◌≡◌, refl, sym, ap, ◌∙◌}
-use mathlib.Core.List.{List, [], ◌∷◌, ◌++◌}
-use mathlib.Core.Bool.{Bool}
-use native.Mathlib.Nat.{zero-add}
-use native.Mathlib.Numerals.{add-one}
-use native.Mathlib.Omega.{arith}
-use lib.ListN.{length, drop, get_or, set, length-append}
+use Rattle.std.proofs.Common.{ℕ, zero, suc, ◌+◌, ◌%◌, ◌<◌, ◌≡◌, refl, sym, ap, ◌∙◌, List, [], ◌∷◌, ◌++◌, Bool, Option, Some}
+use Rattle.std.proofs.Common.{None, unwrap_or, zero-add, add-one, arith, length, drop, get_or, length-append}
+use lib.ListN.{set}
 use lib.Seq.{drop-cons, set_at, append_snoc}
 use Rattle.octets.specs.Patch.{patch}
 use Rattle.replay_hexes.specs.Hexes.{octet_at, place_of, octets_read}
@@ -31,21 +26,26 @@ one_more l d k v n h =
     more : length (l ++ (v ∷ [])) ≡ suc k
     more = simp length-append (omega (arith, n))
 
-next_read : (t : Bool) (s : List ℕ) (k at octet : ℕ) → at ≡ place_of t k → octet ≡ octet_at at s
-    → octets_read t s k ++ (octet % 256 ∷ []) ≡ octets_read t s (k + 1)
+next_read : (t : Bool) (s : List ℕ) (k at : ℕ) → at ≡ place_of t k
+    → octets_read t s k ++ (octet_at at s % 256 ∷ []) ≡ octets_read t s (k + 1)
 unfolding octets_read
-next_read t s k at octet e o = rw (add-one, o, e)
+next_read t s k at e = rw (add-one, e)
 
 turn : (t : Bool) (s d₀ d : List ℕ) (k at octet : ℕ) → d ≡ patch 0 (octets_read t s k) d₀ → k < length d₀ → at ≡ place_of t k
-    → octet ≡ octet_at at s → set d k (octet % 256) ≡ patch 0 (octets_read t s (k + 1)) d₀
+    → octet ≡ octet_at at s % 256 → set d k octet ≡ patch 0 (octets_read t s (k + 1)) d₀
 turn t s d₀ d k at octet e h p o =
-    ap (λ (a : List ℕ). set a k (octet % 256)) e
-    ∙ one_more (octets_read t s k) d₀ k (octet % 256) (read_length t s k) h
-    ∙ ap (λ (l : List ℕ). patch 0 l d₀) (next_read t s k at octet p o)
+    ap (λ (a : List ℕ). set a k octet) e
+    ∙ one_more (octets_read t s k) d₀ k octet (read_length t s k) h
+    ∙ ap (λ (n : ℕ). patch 0 (octets_read t s k ++ (n ∷ [])) d₀) o
+    ∙ ap (λ (l : List ℕ). patch 0 l d₀) (next_read t s k at p)
+
+-- an octet that is there, or 0
+stored : (r : Option ℕ) (octet at : ℕ) → octet ≡ unwrap_or r 0 → octet < 256 → unwrap_or r 256 ≡ at → octet ≡ at % 256
+stored None octet at v h e = rw (← e) v
+stored (Some x) octet at v h e = rw (← e, v) (omega (arith, h, v))
 
 pub loop-k-preserved : goal.loop-k-preserved
-loop-k-preserved c = (
-  turn c.args.parted c.args.s.now c.args.dst.now c.loop-k.dst c.loop-k.k c.place.result c.octet_at.result
-      c.loop-k.invariant.0 (omega arith) c.place.ensures c.octet_at.ensures,
-  omega arith,
-)
+loop-k-preserved c =
+    turn c.args.parted c.args.s.now c.args.dst.now c.loop-k.dst c.loop-k.k c.place.result c.unwrap_or.result
+    c.loop-k.invariant (omega arith) c.place.ensures
+    (stored c.octet_at.result _ _ c.unwrap_or.ensures c.unwrap_or.type_inv c.octet_at.ensures)

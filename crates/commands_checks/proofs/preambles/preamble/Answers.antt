@@ -1,5 +1,5 @@
 -- `preamble` meets its contract: by the length, of which a command that names an endpoint has some, and then by the SEID.
-use mathlib.Core.Path.{sym, ◌∙◌}
+use Rattle.std.proofs.Common.{sym, ◌∙◌}
 use Rattle.rules.specs.Commands.{our_in}
 use Rattle.commands_checks.proofs.Meeting.{names_some, met_long, met_short}
 use Rattle.commands_checks.proofs.preambles.preamble.Goals as goal

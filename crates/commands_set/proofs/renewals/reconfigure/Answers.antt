@@ -1,56 +1,28 @@
 -- `reconfigure` meets its contract: by what the check of the elements finds, and what is said and written is a law of `Anew`.
-use Prim.Native.Nat.{ℕ}
-use mathlib.Core.Path.{◌≡◌, sym, ap, subst, ◌∙◌}
-use mathlib.Core.List.{List}
-use native.Mathlib.Nat.{le_trans}
-use lib.Dec.{lit≤}
-use lib.ListN.{take, drop}
-use Rattle.rules.specs.Elements.{items}
+use Rattle.std.proofs.Common.{sym, refl}
 use Rattle.rules.specs.declared.Rule.TheVariants.{Reconfiguring}
-use Rattle.elements_reader.specs.Orders.{TransportFirst}
-use Rattle.octets.specs.Patch.{part}
-use Rattle.elements.specs.Walks.{check_of}
-use Rattle.commands_checks.proofs.Meeting.{stands}
-use Rattle.commands_set.proofs.Doings.{listed}
+use Rattle.commands_set.proofs.Doings.{listed, checked_fit}
 use Rattle.commands_set.proofs.Anew.{renews, fault_refused, anew_moves}
 use Rattle.commands_set.proofs.renewals.reconfigure.Goals as goal
-use Rattle.commands_set.proofs.renewals.reconfigure.Goals.{After-check-walked}
 
--- ---- What is known on the way
+pub offer-requires : goal.offer-requires
+offer-requires c =
+    listed c.requires
 
-found : (c : After-check-walked)
-    → c.check-walked.result
-    ≡ check_of Reconfiguring (items (take c.args.at.size (drop c.args.at.from c.args.book.now))) c.args.payload.now 1
-unfolding part
-found c =
-    c.check-walked.ensures
-    ∙ ap (λ (l : List ℕ). check_of Reconfiguring (items l) c.args.payload.now 1) c.part.ensures
-
-pub part-requires : goal.part-requires
-part-requires c =
-    (stands c.requires).placed.inside
-
-pub check-walked-requires : goal.check-walked-requires
-unfolding part
-check-walked-requires c =
-    (subst TransportFirst (sym c.part.ensures) (listed c.requires), le_trans c.requires.serves.short (lit≤ tt))
-
-pub get-h-requires : goal.get-h-requires
-get-h-requires c =
-    (stands c.requires).inside
+pub invariant_of-new : goal.invariant_of-new
+invariant_of-new c =
+    record { fits = checked_fit Reconfiguring _ _ 1 (sym c.in-Ok.ensures) }
 
 pub renew-requires : goal.renew-requires
-unfolding part
 renew-requires c =
     renews c.requires c.get-h.ensures
-    (sym (found (goal.at.renew-requires c).After-check-walked) ∙ c.in-Clean.is)
+    (rw (← c.offer.ensures) (sym c.in-Ok.ensures))
 
-pub returns-in-Failed : goal.returns-in-Failed
-returns-in-Failed c =
-    fault_refused c.requires (sym (found (goal.at.returns-in-Failed c).After-check-walked) ∙ c.in-Failed.is)
-    (c.rejected_element.ensures.said, c.rejected_element.ensures.reply)
+pub returns-in-Err : goal.returns-in-Err
+returns-in-Err c =
+    fault_refused c.requires (rw (← c.offer.ensures) (sym c.in-Err.ensures))
+    c.rejected_element.ensures.said c.rejected_element.ensures.reply
 
-pub returns-in-Clean : goal.returns-in-Clean
-returns-in-Clean c =
-    anew_moves c.requires (sym (found (goal.at.returns-in-Clean c).After-check-walked) ∙ c.in-Clean.is) c.get-h.ensures
-    c.accepted.ensures c.renew.ensures
+pub returns-in-Ok : goal.returns-in-Ok
+returns-in-Ok c =
+    anew_moves c.requires {m = c.in-Ok.marks} (rw (← c.offer.ensures) (sym c.in-Ok.ensures)) c.get-h.ensures refl c.renew.ensures

@@ -1,20 +1,13 @@
 -- `set_configuration` meets its contract: each way out has passed the checks before it, and what it says and writes is a law of
 -- `Sets`.
-use Prim.Native.Nat.{ℕ, ◌-◌, ◌≤◌}
-use native.Mathlib.Omega.{arith}
-use mathlib.Core.Path.{◌≡◌, refl, sym, ap, subst, ◌∙◌}
-use mathlib.Core.List.{List}
-use mathlib.Core.Bool.{true}
-use lib.ListN.{length, take, drop, get_or, length-drop}
-use lib.Seq.{take_all}
+use Rattle.std.proofs.Common.{◌≡◌, ℕ, ◌-◌, true, List, length, get_or, take, drop, sym, refl, ◌∙◌, arith, length-drop, take_all}
 use Rattle.rules.specs.Elements.{items, could_store}
 use Rattle.rules.specs.Endpoints.{far_right}
 use Rattle.rules.specs.Commands.{far_in}
-use Rattle.elements_reader.specs.Orders.{TransportFirst}
 use Rattle.octets.specs.Patch.{part}
 use Rattle.commands_checks.proofs.Meeting.{stands}
 use Rattle.commands_set.proofs.Doings.{listed}
-use Rattle.commands_set.proofs.Sets.{two, could_few, far_refused, whole_moves}
+use Rattle.commands_set.proofs.Sets.{could_few, far_refused, whole_moves}
 use Rattle.commands_set.proofs.settings.set_configuration.Goals as goal
 use Rattle.commands_set.proofs.settings.set_configuration.Goals.{Else-not-could_store, Else-not-far_right}
 
@@ -25,62 +18,35 @@ unfolding far_in
 right c = sym c.far_right.ensures ∙ c.if-not-far_right.false
 
 -- the elements, as a part of the payload
-elements : (p : List ℕ) → part 2 (length p - 2) p ≡ drop 2 p
-unfolding part
+elements : (p : List ℕ) → take (length p - 2) (drop 2 p) ≡ drop 2 p
 elements p = take_all (length p - 2) (drop 2 p) (rw length-drop (omega arith))
 
 could : (c : Else-not-could_store)
-    → could_store (items (take c.args.at.size (drop c.args.at.from c.args.book.now))) (drop 2 c.args.payload.now) ≡ true
-unfolding part
-could c =
-    ap (λ (l : List ℕ). could_store (items l) (drop 2 c.args.payload.now)) (sym c.part.ensures)
-    ∙ sym c.could_store.ensures ∙ c.if-not-could_store.false
+    → could_store (items (part c.args.at.from c.args.at.size c.args.book.octets.now)) (drop 2 c.args.payload.now) ≡ true
+could c = rw (← c.offer.ensures) (sym c.could_store.ensures ∙ c.if-not-could_store.false)
 
-pub bounds-payload-1 : goal.bounds-payload-1
-bounds-payload-1 c =
-    two c.requires
+pub offer-requires : goal.offer-requires
+offer-requires c =
+    listed c.requires
 
 pub returns-then-not-far_right : goal.returns-then-not-far_right
 unfolding far_in
 returns-then-not-far_right c =
     far_refused c.requires (sym c.far_right.ensures ∙ c.if-not-far_right.true)
-    (c.rejected_for.ensures.said, c.rejected_for.ensures.reply)
-
-pub part-requires : goal.part-requires
-part-requires c =
-    (stands c.requires).placed.inside
-
-pub could_store-requires : goal.could_store-requires
-unfolding part
-could_store-requires c =
-    subst TransportFirst (sym c.part.ensures) (listed c.requires)
+    c.refused.ensures.said c.refused.ensures.reply
 
 pub set_picked-requires : goal.set_picked-requires
 unfolding far_in
 set_picked-requires c =
     (c.requires, refl, right (goal.at.set_picked-requires c).Else-not-far_right)
 
-pub get-h-requires : goal.get-h-requires
-get-h-requires c =
-    (stands c.requires).inside
-
-pub overflow_sub-payload : goal.overflow_sub-payload
-overflow_sub-payload c =
-    omega (arith, two c.requires)
-
-pub part-requires-2 : goal.part-requires-2
-part-requires-2 c =
-    omega (arith, two c.requires)
-
 pub keep_whole-requires : goal.keep_whole-requires
-keep_whole-requires c = (
-  (stands c.requires).inside,
-  subst (λ (l : List ℕ). length l ≤ 64) (sym (c.part-2.ensures ∙ elements c.args.payload.now))
-      (could_few c.requires (could (goal.at.keep_whole-requires c).Else-not-could_store)),
-)
+keep_whole-requires c =
+    let it = could (goal.at.keep_whole-requires c).Else-not-could_store in
+    ((stands c.requires).inside, rw (elements c.args.payload.now) (could_few c.requires it))
 
 pub returns : goal.returns
 unfolding far_in
 returns c =
     whole_moves c.requires (right (goal.at.returns c).Else-not-far_right) (could (goal.at.returns c).Else-not-could_store)
-    (c.part-2.ensures ∙ elements c.args.payload.now) c.get-h.ensures c.settled.ensures c.accepted.ensures c.keep_whole.ensures
+    (elements c.args.payload.now) c.get-h.ensures c.settled.ensures refl c.keep_whole.ensures

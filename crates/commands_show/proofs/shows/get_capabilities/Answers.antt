@@ -18,4 +18,4 @@ accepted_with-requires c =
 pub returns : goal.returns
 returns c =
     shows_some c.requires c.part.ensures c.codec_end-size.ensures
-    c.part-2.ensures c.accepted_with.ensures
+    c.part-2.ensures c.accepted_with.ensures.said c.accepted_with.ensures.reply

@@ -14,4 +14,4 @@ accepted_with-requires c =
 pub returns : goal.returns
 returns c =
     shows_config c.requires c.config.ensures
-    c.accepted_with.ensures
+    c.accepted_with.ensures.said c.accepted_with.ensures.reply

@@ -1,16 +1,7 @@
 -- `abort` meets its contract: the endpoint that was met leaves.
-use mathlib.Core.Path.{refl}
-use Rattle.rules.specs.Commands.{obey}
-use Rattle.rules.specs.declared.State.TheVariants.{Aborting}
-use Rattle.commands_checks.proofs.Meeting.{stands}
-use Rattle.commands_stream.proofs.Moving.{leaves}
+use Rattle.commands_stream.proofs.Moving.{aborts}
 use Rattle.commands_stream.proofs.leaves.abort.Goals as goal
 
-pub leave-requires : goal.leave-requires
-leave-requires c =
-    (stands c.requires).inside
-
 pub returns : goal.returns
-unfolding obey
 returns c =
-    leaves c.requires Aborting refl (c.leave.ensures.said, c.leave.ensures.records)
+    aborts c.requires c.leave.ensures.said c.leave.ensures.records

@@ -1,14 +1,8 @@
-use Prim.Native.Nat.{◌-◌, ◌*◌, ◌≤◌}
-use mathlib.Core.Path.{◌≡◌}
-use lib.ListN.{drop}
+use Rattle.std.proofs.Common.{◌≡◌, ◌-◌, ◌*◌, drop}
 use Rattle.rules.specs.Endpoints.{awaiting}
 use Rattle.rules.specs.Saved.{record_room, ends_in}
 use Rattle.commands_stream.proofs.opens.none_awaits.Given as goal
 
 abbrev pub invariant-loop-i : goal.invariant-loop-i
 invariant-loop-i l =
-    (l.i ≤ l.count)
-    × (awaiting (ends_in l.count l.records) ≡ awaiting (ends_in (l.count - l.i) (drop (l.i * record_room) l.records)))
-
-abbrev pub decreases-loop-i : goal.decreases-loop-i
-decreases-loop-i l = l.count - l.i
+    awaiting (ends_in l.count l.records) ≡ awaiting (ends_in (l.count - l.i) (drop (l.i * record_room) l.records))

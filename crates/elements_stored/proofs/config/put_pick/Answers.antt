@@ -15,7 +15,9 @@ use Rattle.octets.proofs.Patches.{patch_behind, patch_third}
 use Rattle.elements_stored.specs.Stores.{size_at, value_at, marked_pick, PickFits}
 use Rattle.elements_stored.proofs.Writes.{Wrote, wrote_none}
 use Rattle.elements_stored.proofs.config.put_pick.Goals as goal
-use Rattle.elements_stored.proofs.config.put_pick.Goals.{After-put, Else-place-eq0}
+use Rattle.elements_stored.proofs.config.put_pick.Goals.{then-category-eq7+then-size-ne0, else-category-eq7}
+use Rattle.elements_stored.proofs.config.put_pick.Goals.{else-category-eq7-via-then-category-eq7+else-size-ne0}
+use Rattle.elements_stored.proofs.config.put_pick.Goals.{else-category-eq7-via-else-category-eq7}
 
 other_kept : (c : ℕ) (v : List ℕ) → (c ≡ 7 → ⊥) → kept c v ≡ v
 unfolding kept
@@ -116,114 +118,43 @@ module _ (c : ℕ) (l : List ℕ) (place to : ℕ) (a : List ℕ) (h : Rooms l p
         end,
       )
 
--- the same at the places of the code
-abbrev RoomsAt : Else-place-eq0 → Type 0
-RoomsAt c = Rooms c.args.list.now c.args.place c.args.to c.args.area.now
-
-rooms_at : (c : Else-place-eq0) → RoomsAt c
-rooms_at c =
-    rooms c.args.category c.args.list.now c.args.place c.args.to c.args.area.now c.if-place-eq0.false c.requires
-
-abbrev WrittenAt : After-put → Type 0
-WrittenAt c =
-    c.put.new.dst
-    ≡ patch c.args.to
-    (c.args.category ∷ size_at c.args.list.now c.args.place ∷ value_at c.args.list.now c.args.place) c.args.area.now
-
-written_at : (c : After-put) → WrittenAt c
-written_at c =
-    first c.args.category c.args.list.now c.args.place c.args.to c.args.area.now
-    (rooms c.args.category c.args.list.now c.args.place c.args.to c.args.area.now c.if-place-eq0.false c.requires)
-    c.part.result.now c.part.ensures c.put.ensures
-
-written_length : (c : After-put) → length c.put.new.dst ≡ length c.args.area.now
-written_length c = c.put.auto.dst ∙ simp length-set
-
 pub returns-then-place-eq0 : goal.returns-then-place-eq0
 returns-then-place-eq0 c =
     let both = none c.args.category c.args.list.now c.args.place c.args.to c.args.area.now c.if-place-eq0.true in
     record { area = both.0; end = both.1 }
 
-pub bounds-list-before : goal.bounds-list-before
-bounds-list-before c =
-    let h = rooms_at (goal.at.bounds-list-before c).Else-place-eq0 in
-    omega arith
-
-pub overflow_cast-size : goal.overflow_cast-size
-overflow_cast-size c =
-    let h = rooms_at (goal.at.overflow_cast-size c).Else-place-eq0 in
-    omega arith
-
 pub bounds-area-to : goal.bounds-area-to
 bounds-area-to c =
-    let h = rooms_at (goal.at.bounds-area-to c).Else-place-eq0 in
-    omega arith
-
-pub overflow_add-size : goal.overflow_add-size
-overflow_add-size c =
-    let h = rooms_at (goal.at.overflow_add-size c).Else-place-eq0 in
-    omega arith
-
-pub part-requires : goal.part-requires
-part-requires c =
-    let h = rooms_at (goal.at.part-requires c).Else-place-eq0 in
+    let h = rooms c.args.category c.args.list.now c.args.place c.args.to c.args.area.now c.if-place-eq0.false c.requires in
     omega arith
 
 pub put-requires : goal.put-requires
 put-requires c =
-    let h = rooms_at (goal.at.put-requires c).Else-place-eq0 in
+    let h = rooms c.args.category c.args.list.now c.args.place c.args.to c.args.area.now c.if-place-eq0.false c.requires in
     part_fits c.args.category c.args.list.now c.args.place c.args.to c.args.area.now h
     c.part.result.now c.part.ensures
 
-pub overflow_add-end-2 : goal.overflow_add-end-2
-overflow_add-end-2 c =
-    let h = rooms_at (goal.at.overflow_add-end-2 c).Else-place-eq0 in
-    omega arith
-
-pub shape_of-area-then-category-ne7 : goal.shape_of-area-then-category-ne7
-shape_of-area-then-category-ne7 c =
-    written_length (goal.at.shape_of-area-then-category-ne7 c).After-put
-
-pub returns-then-category-ne7 : goal.returns-then-category-ne7
-returns-then-category-ne7 c =
-    let h = rooms_at (goal.at.returns-then-category-ne7 c).Else-place-eq0 in
-    let both = plain c.args.category c.args.list.now c.args.place c.args.to c.args.area.now h
-    (other_kept c.args.category _ c.if-category-ne7.true) (written_at (goal.at.returns-then-category-ne7 c).After-put) in
-    record { area = both.0; end = both.1 }
-
-pub shape_of-area-then-size-eq0 : goal.shape_of-area-then-size-eq0
-shape_of-area-then-size-eq0 c =
-    written_length (goal.at.shape_of-area-then-size-eq0 c).After-put
-
-pub returns-then-size-eq0 : goal.returns-then-size-eq0
-returns-then-size-eq0 c =
-    let h = rooms_at (goal.at.returns-then-size-eq0 c).Else-place-eq0 in
-    let both = plain c.args.category c.args.list.now c.args.place c.args.to c.args.area.now h
-    (none_kept c.args.category _ (drop c.args.place c.args.list.now) c.if-category-ne7.false c.if-size-eq0.true)
-    (written_at (goal.at.returns-then-size-eq0 c).After-put) in
-    record { area = both.0; end = both.1 }
-
-pub bounds-list-place : goal.bounds-list-place
-bounds-list-place c =
-    let h = rooms_at (goal.at.bounds-list-place c).Else-place-eq0 in
-    omega (arith, c.if-size-eq0.false)
-
-pub overflow_mul-area : goal.overflow_mul-area
-overflow_mul-area c =
-    omega (arith, c.type_inv.list c.args.place)
-
-pub bounds-area-to-2 : goal.bounds-area-to-2
-bounds-area-to-2 c =
-    let h = rooms_at (goal.at.bounds-area-to-2 c).Else-place-eq0 in
-    omega (arith, written_length (goal.at.bounds-area-to-2 c).After-put, c.if-size-eq0.false)
-
-pub shape_of-area : goal.shape_of-area
-shape_of-area c =
-    simp length-set (written_length (goal.at.shape_of-area c).After-put)
+pub bounds-area-to-then-size-ne0 : goal.bounds-area-to-then-size-ne0
+bounds-area-to-then-size-ne0 c =
+    let h = rooms c.args.category c.args.list.now c.args.place c.args.to c.args.area.now c.if-place-eq0.false c.requires in
+    omega (arith, c.put.auto.dst, length-set {A = ℕ}, c.if-size-ne0.true)
 
 pub returns : goal.returns
 returns c =
-    let h = rooms_at (goal.at.returns c).Else-place-eq0 in
-    let both = cleared c.args.category c.args.list.now c.args.place c.args.to c.args.area.now h
-    c.if-category-ne7.false c.if-size-eq0.false (written_at (goal.at.returns c).After-put) in
+    let h = rooms c.args.category c.args.list.now c.args.place c.args.to c.args.area.now c.if-place-eq0.false c.requires in
+    let e = first c.args.category c.args.list.now c.args.place c.args.to c.args.area.now h c.part.result.now c.part.ensures
+    c.put.ensures in
+    let both : Wrote c.args.to (marked_pick c.args.category c.args.list.now c.args.place) c.args.area.now c.if-category-eq7.area
+    (c.args.to + 2 + size_at c.args.list.now c.args.place) = elim c.if-category-eq7.branch [
+      | then-category-eq7+then-size-ne0 w ↦ rw w.area-is
+          (cleared c.args.category c.args.list.now c.args.place c.args.to c.args.area.now h
+          w.if-category-eq7.true w.if-size-ne0.true e)
+      | else-category-eq7 w ↦ rw w.area-is
+          (plain c.args.category c.args.list.now c.args.place c.args.to c.args.area.now h
+          (elim w.else-category-eq7.branch [
+            | else-category-eq7-via-then-category-eq7+else-size-ne0 w' ↦
+                none_kept c.args.category _ (drop c.args.place c.args.list.now) w'.if-category-eq7.true w'.if-size-ne0.false
+            | else-category-eq7-via-else-category-eq7 w' ↦ other_kept c.args.category _ w'.if-category-eq7.false
+          ]) e)
+    ] in
     record { area = both.0; end = both.1 }

@@ -1,83 +1,89 @@
--- `store` meets its contract: each of the five writes begins where the one before ends, so together they are one.
-use Prim.Native.Nat.{ℕ, ◌+◌, ◌-◌, ◌≤◌}
-use mathlib.Core.Path.{◌≡◌}
-use mathlib.Core.List.{List, ◌++◌, append_assoc}
-use native.Mathlib.Omega.{arith}
-use lib.ListN.{length, length-append}
+-- `store` meets its contract: each write begins where the one before ends, so together they are one, of the categories so far.
+use Rattle.std.proofs.Common.{◌≡◌, ◌+◌, ◌≤◌, ◌<◌, true, length, take, get_or, ℕ, zero, suc, List, [], ◌∷◌, ◌++◌}
+use Rattle.std.proofs.Common.{refl, sym, ap, append_assoc, take_all, add-one, arith, length-append}
+use mathlib.Core.Path.{◌∙◌}
+use mathlib.Core.List.{append-nil}
+use borrow.Author.Tests.{eq-eqb}
+use lib.Dec.{eqb}
+use Rattle.rules.specs.Octets.{member}
+use Rattle.rules.specs.Elements.{offerable}
+use Rattle.rules.proofs.Tests.{or_l, or_r}
 use Rattle.elements.specs.declared.marks.Marks.{Marks}
-use Rattle.octets.specs.Patch.{patch}
-use Rattle.elements_stored.specs.Stores.{either_pick, marked_store}
-use Rattle.elements_stored.proofs.Writes.{Wrote, wrote_further}
+use Rattle.elements_stored.specs.Stores.{picked, picked_all, marked_store}
+use Rattle.elements_stored.proofs.Writes.{Wrote, wrote_none, wrote_further}
 use Rattle.elements_stored.proofs.config.store.Goals as goal
 
-module _ (new : List ℕ) (m : Marks) (old : List ℕ) (k : Marks) where
-  abbrev one : List ℕ
-  one = either_pick 1 new m.transport old k.transport
+-- each of the categories is one of them
+member_at : (cs : List ℕ) (i : ℕ) → i < length cs → member (get_or cs i 0) cs ≡ true
+unfolding member
+member_at [] i h = absurd (omega arith)
+member_at (c ∷ cs) zero h = or_l (eqb c c) (member c cs) (eq-eqb c c refl)
+member_at (c ∷ cs) (suc i) h = or_r (eqb (get_or cs i 0) c) (member (get_or cs i 0) cs) (member_at cs i (omega arith))
 
-  abbrev two : List ℕ
-  two = either_pick 2 new m.reporting old k.reporting
+module _ (new : List ℕ) (f : Marks) (old : List ℕ) (k : Marks) where
+  -- of the first categories
+  abbrev first : ℕ → List ℕ → List ℕ
+  first i cs = picked_all (take i cs) new f old k
 
-  abbrev four : List ℕ
-  four = either_pick 4 new m.protection old k.protection
+  abbrev one : ℕ → List ℕ → List ℕ
+  one i cs = picked (get_or cs i 0) new f old k
 
-  abbrev seven : List ℕ
-  seven = either_pick 7 new m.codec old k.codec
+  next : (cs : List ℕ) (i : ℕ) → i < length cs → first (suc i) cs ≡ first i cs ++ one i cs
+  unfolding picked_all
+  next [] i h = absurd (omega arith)
+  next (c ∷ cs) zero h = append-nil (picked c new f old k)
+  next (c ∷ cs) (suc i) h =
+      ap (λ s. picked c new f old k ++ s) (next cs i (omega arith))
+      ∙ sym (append_assoc (picked c new f old k) (first i cs) (one i cs))
 
-  abbrev eight : List ℕ
-  eight = either_pick 8 new m.delaying old k.delaying
+  -- they take no more room than all
+  room : (cs : List ℕ) (i : ℕ) → length (first i cs) ≤ length (picked_all cs new f old k)
+  unfolding picked_all
+  room cs zero = omega arith
+  room [] (suc i) = omega arith
+  room (c ∷ cs) (suc i) = omega (arith, room cs i, length-append {A = ℕ})
 
-  sizes : length (marked_store new m old k) ≡ length one + (length two + (length four + (length seven + length eight)))
-  unfolding marked_store
-  sizes = simp length-append
+  room_next : (cs : List ℕ) (i : ℕ) → i < length cs
+      → length (first i cs) + length (one i cs) ≤ length (picked_all cs new f old k)
+  room_next cs i h = omega (arith, room cs (suc i), ap length (next cs i h), length-append (first i cs) (one i cs))
 
-  all : (to : ℕ) (a : List ℕ) {b₁ b₂ b₄ b₇ b₈ : List ℕ} {r₁ r₂ r₄ r₇ r₈ : ℕ} → to + length (marked_store new m old k) ≤ length a
-      → Wrote to one a b₁ r₁ → Wrote r₁ two b₁ b₂ r₂ → Wrote r₂ four b₂ b₄ r₄ → Wrote r₄ seven b₄ b₇ r₇ → Wrote r₇ eight b₇ b₈ r₈
-      → (b₈ ≡ patch to (marked_store new m old k) a) × (r₈ - to ≡ length (marked_store new m old k))
-  unfolding marked_store
-  all to a room w₁ w₂ w₄ w₇ w₈ =
-      let n = sizes in
-      let to_two = wrote_further to one two a (omega arith) w₁ w₂ in
-      let to_four = wrote_further to (one ++ two) four a (simp length-append (omega arith)) to_two w₄ in
-      let to_seven = wrote_further to ((one ++ two) ++ four) seven a (simp length-append (omega arith)) to_four w₇ in
-      let to_eight = wrote_further to (((one ++ two) ++ four) ++ seven) eight a (simp length-append (omega arith)) to_seven w₈ in
-      let whole : Wrote to (marked_store new m old k) a _ _ = simp append_assoc at to_eight in
-      (whole.0, omega (arith, whole.1))
+  wrote_next : (cs : List ℕ) (i to : ℕ) (a : List ℕ) {b b' : List ℕ} {r r' : ℕ} → i < length cs
+      → to + length (picked_all cs new f old k) ≤ length a → Wrote to (first i cs) a b r → Wrote r (one i cs) b b' r'
+      → Wrote to (first (i + 1) cs) a b' r'
+  wrote_next cs i to a h fits w v =
+      let n = room_next cs i h in
+      rw (add-one, next cs i h) (wrote_further to (first i cs) (one i cs) a (omega arith) w v)
 
-  -- the room that is asked for, as a sum
-  room : (to : ℕ) (a : List ℕ) → to + length (marked_store new m old k) ≤ length a
-      → to + (length one + (length two + (length four + (length seven + length eight)))) ≤ length a
-  room to a h = omega (arith, h, sizes)
+  wrote_all : (cs : List ℕ) (i to : ℕ) (a : List ℕ) {b : List ℕ} {r : ℕ} → length cs ≤ i → Wrote to (first i cs) a b r
+      → Wrote to (picked_all cs new f old k) a b r
+  wrote_all cs i to a h w = rw (take_all i cs h) at w
 
-pub put_either-one-requires : goal.put_either-one-requires
-put_either-one-requires c =
-    let h = room c.args.new.now c.args.fresh c.args.old.now c.args.left c.args.to c.args.area.now c.requires.2 in
-    (c.requires.0.transport, c.requires.1.transport, omega arith)
+pub loop-category-init : goal.loop-category-init
+unfolding picked_all
+loop-category-init c =
+    wrote_none c.args.to [] c.args.area.now refl
 
-pub put_either-two-requires : goal.put_either-two-requires
-put_either-two-requires c =
-    let h = room c.args.new.now c.args.fresh c.args.old.now c.args.left c.args.to c.args.area.now c.requires.2 in
-    (c.requires.0.reporting, c.requires.1.reporting, omega arith)
+pub put_one-end-requires : goal.put_one-end-requires
+unfolding marked_store offerable
+put_one-end-requires c =
+    let i = c.loop-category.category-index in
+    let n = room_next c.args.new.list.now c.args.new.marks c.args.old.list.now c.args.old.marks offerable i (omega arith) in
+    (member_at offerable i (omega arith), omega (arith, c.loop-category.invariant.1))
 
-pub put_either-four-requires : goal.put_either-four-requires
-put_either-four-requires c =
-    let h = room c.args.new.now c.args.fresh c.args.old.now c.args.left c.args.to c.args.area.now c.requires.2 in
-    (c.requires.0.protection, c.requires.1.protection, omega arith)
+pub loop-category-preserved : goal.loop-category-preserved
+unfolding marked_store offerable
+loop-category-preserved c =
+    wrote_next c.args.new.list.now c.args.new.marks c.args.old.list.now c.args.old.marks offerable
+    c.loop-category.category-index c.args.to c.args.area.now (omega arith) c.requires c.loop-category.invariant
+    (c.put_one-end.ensures.area, c.put_one-end.ensures.end)
 
-pub put_either-seven-requires : goal.put_either-seven-requires
-put_either-seven-requires c =
-    let h = room c.args.new.now c.args.fresh c.args.old.now c.args.left c.args.to c.args.area.now c.requires.2 in
-    (c.requires.0.codec, c.requires.1.codec, omega arith)
-
-pub put_either-eight-requires : goal.put_either-eight-requires
-put_either-eight-requires c =
-    let h = room c.args.new.now c.args.fresh c.args.old.now c.args.left c.args.to c.args.area.now c.requires.2 in
-    (c.requires.0.delaying, c.requires.1.delaying, omega arith)
+pub overflow_sub-result : goal.overflow_sub-result
+overflow_sub-result c =
+    omega (arith, c.loop-category.invariant.1)
 
 pub returns : goal.returns
+unfolding marked_store offerable
 returns c =
-    let both = all c.args.new.now c.args.fresh c.args.old.now c.args.left c.args.to c.args.area.now c.requires.2
-    (c.put_either-one.ensures.area, c.put_either-one.ensures.end) (c.put_either-two.ensures.area, c.put_either-two.ensures.end)
-    (c.put_either-four.ensures.area, c.put_either-four.ensures.end)
-    (c.put_either-seven.ensures.area, c.put_either-seven.ensures.end)
-    (c.put_either-eight.ensures.area, c.put_either-eight.ensures.end) in
-    record { area = both.0; length = both.1 }
+    let both = wrote_all c.args.new.list.now c.args.new.marks c.args.old.list.now c.args.old.marks offerable
+    c.loop-category.category-index c.args.to c.args.area.now (omega arith) c.loop-category.invariant in
+    record { area = both.0; length = omega (arith, both.1) }

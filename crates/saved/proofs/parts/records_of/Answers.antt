@@ -1,8 +1,9 @@
 -- `records_of` meets its contract: the records are all that stands behind the link part.
-use mathlib.Core.Path.{◌∙◌}
-use Rattle.saved.proofs.Apart.{records_part}
+use Rattle.octets.proofs.Tails.{behind_whole}
+use Rattle.rules.specs.Saved.{records_of}
 use Rattle.saved.proofs.parts.records_of.Goals as goal
 
 pub returns : goal.returns
+unfolding records_of
 returns c =
-    c.part.ensures ∙ records_part _
+    search behind_whole

@@ -4,4 +4,4 @@ use Rattle.saved.proofs.records.set.Goals as goal
 
 pub returns : goal.returns
 returns c =
-    set_by c.args.i c.args.records.now c.put_head.new.slot c.args.h c.args.length c.put_head.ensures
+    set_by c.args.i c.args.records.now c.put_head.new.slot c.args.h c.args.size c.put_head.ensures

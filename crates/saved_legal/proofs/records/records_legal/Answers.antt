@@ -1,148 +1,87 @@
 -- `records_legal` meets its contract: what is left at a turn, with the channels awaited so far, is legal where all is.
-use Prim.Native.Nat.{ℕ, ◌+◌, ◌-◌, ◌*◌, ◌≤◌}
-use native.Mathlib.Omega.{arith}
-use mathlib.Core.Path.{◌≡◌, sym, ap, subst, ◌∙◌}
-use mathlib.Core.List.{List}
-use lib.ListN.{length, get_or}
-use Rattle.rules.specs.Saved.{record_room}
+use Rattle.std.proofs.Common.{Some, ◌+◌, ◌-◌, ◌≤◌, ◌≡◌, length, refl, sym, subst, ◌∙◌, arith}
+use Rattle.rules.specs.Book.{book_of}
 use Rattle.elements_reader.specs.Orders.{TransportFirst}
-use Rattle.octets.specs.Patch.{part}
-use Rattle.octets.proofs.Patches.{part_length}
-use Rattle.book.proofs.Entries.{RightEntry, RightEntries, first_entry, other_entries, right_head}
+use Rattle.book.proofs.Entries.{RightEntries, first_entry, other_entries, right_head}
 use Rattle.book.proofs.Found.{all_counted}
-use Rattle.saved_legal.specs.Legal.{awaits_in, record_legal}
-use Rattle.saved_legal.proofs.EachRecord.{entry_first, awaits_few, entry_at, at_hand, turn_ends, turn_goes_on, all_left}
+use Rattle.book.specs.Entries.{RightEntry}
+use Rattle.rules.specs.Saved.{record_at}
+use Rattle.saved_legal.specs.Legal.{awaited_in}
+use Rattle.saved_legal.proofs.EachRecord.{entry_first, entry_at, at_hand, turn_ends, turn_few, turn_goes_on, all_left}
 use Rattle.saved_legal.proofs.EachRecord.{none_left}
 use Rattle.saved_legal.proofs.records.records_legal.Goals as goal
-use Rattle.saved_legal.proofs.records.records_legal.Goals.{After-awaits-awaited, After-part-slot, After-record_legal}
-use Rattle.saved_legal.proofs.records.records_legal.Goals.{In-loop-index}
+use Rattle.saved_legal.proofs.records.records_legal.Goals.{In-loop-index, After-awaited_by, In-Some}
 
--- the entry at hand, and room for its record
-entry : (c : In-loop-index)
-    → RightEntry c.args.book.now c.loop-index.at
+-- the entry at hand
+entry : (c : In-loop-index) → RightEntry c.args.book.octets.now c.loop-index.at
 entry c =
-    first_entry (c.count-entries.result - (c.loop-index.index + 1)) (c.count-entries.result - c.loop-index.index) _
-    c.loop-index.at (omega arith) c.loop-index.invariant.2
+    let n = length (book_of c.args.book.octets.now) in
+    first_entry (n - (c.loop-index.index + 1)) (n - c.loop-index.index) _ c.loop-index.at (omega arith)
+    c.loop-index.invariant.right
 
-room : (c : In-loop-index)
-    → c.loop-index.index * record_room + record_room ≤ length c.args.records.now
-room c =
-    omega (arith, c.loop-index-test.true, c.count-entries.ensures, c.requires.1)
-
--- the record that was taken
-slot_long : (c : After-part-slot) → length c.part-slot.result.now ≡ record_room
-slot_long c =
-    subst (λ (x : List ℕ). length x ≡ record_room) (sym c.part-slot.ensures)
-    (part_length (c.loop-index.index * record_room) record_room c.args.records.now
-    (omega (arith, c.loop-index-test.true, c.count-entries.ensures, c.requires.1)))
-
--- what the test of a record says
-judged : (c : After-record_legal)
-    → c.record_legal.result
-    ≡ record_legal (entry_at c.args.book.now c.loop-index.at)
-    (part (c.loop-index.index * record_room) record_room c.args.records.now)
+-- what the test of its record says
+judged : (c : After-awaited_by) → c.awaited_by.result
+    ≡ awaited_in (entry_at c.args.book.octets.now c.loop-index.at) (record_at c.loop-index.index c.args.records.now)
 judged c =
-    at_hand c.args.book.now c.loop-index.at c.loop-index.index c.args.records.now _ _ c.part-slot.ensures
-    c.part.ensures c.record_legal.ensures
-
-few : (c : After-awaits-awaited) → c.awaits-awaited.result ≤ 1
-few c = subst (λ (n : ℕ). n ≤ 1) (sym c.awaits-awaited.ensures) (awaits_few _)
-
-pub count-entries-requires : goal.count-entries-requires
-count-entries-requires c =
-    c.requires.0
+    let e = c.entry-entry.ensures in
+    at_hand _ c.loop-index.at c.loop-index.index c.args.records.now _ _ _ _ c.at-slot.ensures e.seid e.kind e.list
+    c.awaited_by.ensures
 
 pub loop-index-init : goal.loop-index-init
-loop-index-init c = (
-  omega arith,
-  omega arith,
-  subst (λ n. RightEntries n c.args.book.now 6) (all_counted c.args.book.now _ c.count-entries.ensures)
-      (right_head c.args.book.now c.requires.0).entries,
-  all_left c.args.book.now c.args.records.now _ c.count-entries.ensures,
-)
+loop-index-init c =
+    let book = c.args.book.octets.now in record {
+      few = omega arith;
+      right = subst (λ n. RightEntries n book 6) (all_counted book _ refl) (right_head book c.args.book.right).entries;
+      legal = all_left book c.args.records.now;
+    }
 
-pub overflow_add-size : goal.overflow_add-size
-overflow_add-size c =
-    let r = entry (goal.at.overflow_add-size c).In-loop-index in omega arith
+pub entry-entry-requires : goal.entry-entry-requires
+entry-entry-requires c =
+    entry (goal.at.entry-entry-requires c).In-loop-index
 
-pub bounds-book-at : goal.bounds-book-at
-bounds-book-at c =
-    let r = entry (goal.at.bounds-book-at c).In-loop-index in omega arith
+pub awaited_by-requires : goal.awaited_by-requires
+awaited_by-requires c =
+    subst TransportFirst (sym c.entry-entry.ensures.list)
+    (entry_first _ c.loop-index.at (entry (goal.at.awaited_by-requires c).In-loop-index))
 
-pub overflow_cast-size : goal.overflow_cast-size
-overflow_cast-size c =
-    let r = entry (goal.at.overflow_cast-size c).In-loop-index in omega arith
+pub returns-in_default : goal.returns-in_default
+returns-in_default c =
+    let n = length (book_of c.args.book.octets.now) in
+    let illegal = sym (judged (goal.at.returns-in_default c).After-awaited_by) ∙ c.in_default.is in
+    sym (c.loop-index.invariant.legal
+    ∙ turn_ends (n - (c.loop-index.index + 1)) (n - c.loop-index.index) _ c.loop-index.at c.loop-index.awaited
+    c.loop-index.index c.args.records.now (omega arith) illegal)
 
-pub overflow_add-from : goal.overflow_add-from
-overflow_add-from c =
-    let r = entry (goal.at.overflow_add-from c).In-loop-index in omega arith
+-- where it is legal
+told : (c : In-Some)
+    → awaited_in (entry_at c.args.book.octets.now c.loop-index.at) (record_at c.loop-index.index c.args.records.now)
+    ≡ Some c.in-Some.more
+told c = sym (judged (goal.at.loop-index-preserved c).After-awaited_by) ∙ c.in-Some.is
 
-pub overflow_mul-index : goal.overflow_mul-index
-overflow_mul-index c =
-    let r = room (goal.at.overflow_mul-index c).In-loop-index in omega arith
-
-pub part-slot-requires : goal.part-slot-requires
-part-slot-requires c =
-    room (goal.at.part-slot-requires c).In-loop-index
-
-pub bounds-book-at-in-loop-index : goal.bounds-book-at-in-loop-index
-bounds-book-at-in-loop-index c =
-    let r = entry (goal.at.bounds-book-at-in-loop-index c).In-loop-index in omega arith
-
-pub overflow_add-at : goal.overflow_add-at
-overflow_add-at c =
-    let r = entry (goal.at.overflow_add-at c).In-loop-index in omega arith
-
-pub bounds-book-at-in-loop-index-2 : goal.bounds-book-at-in-loop-index-2
-bounds-book-at-in-loop-index-2 c =
-    let r = entry (goal.at.bounds-book-at-in-loop-index-2 c).In-loop-index in omega arith
-
-pub part-requires : goal.part-requires
-part-requires c =
-    (entry (goal.at.part-requires c).In-loop-index).inside
-
-pub record_legal-requires : goal.record_legal-requires
-record_legal-requires c =
-    let r = entry (goal.at.record_legal-requires c).In-loop-index in
-    let long = slot_long (goal.at.record_legal-requires c).After-part-slot in
-    (subst TransportFirst (sym c.part.ensures) (entry_first c.args.book.now c.loop-index.at r), long)
-
-pub returns-then-not-record_legal : goal.returns-then-not-record_legal
-returns-then-not-record_legal c =
-    let illegal = sym (judged (goal.at.returns-then-not-record_legal c).After-record_legal) ∙ c.if-not-record_legal.true in
-    sym (c.loop-index.invariant.3
-    ∙ turn_ends (c.count-entries.result - (c.loop-index.index + 1)) (c.count-entries.result - c.loop-index.index) c.args.book.now
-    c.loop-index.at c.loop-index.awaited c.loop-index.index c.args.records.now (omega arith) illegal)
-
-pub bounds-slot-2 : goal.bounds-slot-2
-bounds-slot-2 c =
-    omega (arith, slot_long (goal.at.bounds-slot-2 c).After-part-slot)
+few : (c : In-Some) → c.in-Some.more ≤ 1
+few c =
+    let n = length (book_of c.args.book.octets.now) in
+    turn_few (n - (c.loop-index.index + 1)) (n - c.loop-index.index) _ c.loop-index.at c.loop-index.awaited c.loop-index.index
+    c.args.records.now (omega arith) _ (told c)
 
 pub overflow_add-awaited : goal.overflow_add-awaited
 overflow_add-awaited c =
-    omega (arith, few (goal.at.overflow_add-awaited c).After-awaits-awaited)
-
-pub overflow_add-at-in-loop-index : goal.overflow_add-at-in-loop-index
-overflow_add-at-in-loop-index c =
-    let r = entry (goal.at.overflow_add-at-in-loop-index c).In-loop-index in omega arith
+    omega (arith, few c)
 
 pub loop-index-preserved : goal.loop-index-preserved
 loop-index-preserved c =
-    let rest = c.count-entries.result - (c.loop-index.index + 1) in
-    let legal = sym (judged (goal.at.loop-index-preserved c).After-record_legal) ∙ c.if-not-record_legal.false in (
-      omega arith,
-      omega (arith, few (goal.at.loop-index-preserved c).After-awaits-awaited),
-      other_entries rest (c.count-entries.result - c.loop-index.index) c.args.book.now c.loop-index.at (omega arith)
-          c.loop-index.invariant.2,
-      c.loop-index.invariant.3
-          ∙ turn_goes_on rest (c.count-entries.result - c.loop-index.index) c.args.book.now c.loop-index.at c.loop-index.awaited
-          c.loop-index.index c.args.records.now (omega arith) (c.loop-index.awaited + c.awaits-awaited.result) legal
-          (ap (λ (n : ℕ). c.loop-index.awaited + n)
-          (c.awaits-awaited.ensures ∙ ap (λ (x : List ℕ). awaits_in (get_or x 2 0)) c.part-slot.ensures)),
-    )
+    let e = c.entry-entry.ensures in
+    let n = length (book_of c.args.book.octets.now) in
+    let rest = n - (c.loop-index.index + 1) in
+    rw (e.from, e.size) (record {
+      few = omega (arith, few c);
+      right = other_entries rest (n - c.loop-index.index) _ c.loop-index.at (omega arith) c.loop-index.invariant.right;
+      legal = c.loop-index.invariant.legal
+          ∙ turn_goes_on rest (n - c.loop-index.index) _ c.loop-index.at c.loop-index.awaited c.loop-index.index
+          c.args.records.now (omega arith) _ (told c);
+    })
 
 pub returns : goal.returns
 returns c =
-    sym (c.loop-index.invariant.3
-    ∙ none_left c.args.book.now c.loop-index.at (c.count-entries.result - c.loop-index.index) c.loop-index.awaited
-    c.loop-index.index c.args.records.now (omega arith))
+    sym (c.loop-index.invariant.legal
+    ∙ none_left _ c.loop-index.at _ c.loop-index.awaited c.loop-index.index c.args.records.now (omega arith))

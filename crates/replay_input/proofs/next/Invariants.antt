@@ -1,5 +1,0 @@
--- `next` ends: it counts its turns down, and its areas keep their lengths.
-use Rattle.replay_input.proofs.next.Given as goal
-
-abbrev pub decreases-loop-turns : goal.decreases-loop-turns
-decreases-loop-turns g l = l.turns
