@@ -100,6 +100,17 @@ module _ (book saved : List ℕ) (s : OurSeid) where
       told None = refl
       told (Some place) = refl
 
+  -- the number with which the settings are told
+  pub shown_number : (settings_call book saved s).number ≡ asked book saved s
+  unfolding settings_call shown_at found_by asked number_or
+  shown_number = go (refusal_of book saved) (place_in s book) refl refl
+    where
+      go : (first : ℕ) (p : Option Place) → refusal_of book saved ≡ first → place_in s book ≡ p
+          → (settings_call book saved s).number ≡ asked book saved s
+      go (suc n) p e f = rw (e, ne_eqb (suc n) 0 (λ z. omega arith))
+      go zero None e f = rw (e, found_as s book None f, f)
+      go zero (Some p) e f = rw (e, found_as s book (Some p) f, f)
+
   -- ---- Not refused
 
   pub answered : ((i : ℕ) → get_or saved i 0 < 256) → 0 ≡ asked book saved s → Calm book saved

@@ -40,6 +40,7 @@ pub fn settings<'a>(book: &'a [u8], saved: &'a [u8], seid: OurSeid) -> &'a [u8]
 }
 
 // Why that question is refused.
+#[tactic(auto, using(rules::proofs::Refusing::handed_on, crate::proofs::Asked::shown_number))]
 pub fn settings_told(book: &[u8], saved: &[u8], seid: OurSeid) -> Result<(), Refusal>
     ensures { number_told result ≡ (settings_call book.now saved.now seid).number }
 {

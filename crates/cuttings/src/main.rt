@@ -5,7 +5,6 @@
 ghost use Rattle.std.specs.Prelude.{◌≡◌, ◌+◌, ◌*◌, ◌^◌, ◌≤◌, ◌<◌, min, length};
 
 use packets_cut::PacketSize;
-use rules::refusals::Refusal;
 use rules::{Header, Piece};
 use std::ops::AddAssign;
 use std::{array, io};
@@ -107,7 +106,8 @@ fn differs(
 }
 
 // One message: the count of its packets, the number behind the last, which is refused, and every packet. What is expected is
-// written without `octets::put`, by which the cutter writes, so that a fault there would show.
+// written without `octets::put`, by which the cutter writes, and the number without the cutter's names of refusals, so that a
+// fault there would show.
 fn message(size: PacketSize, payload: &[u8], area: &mut Area, expected: &mut Area) -> Tally
     requires { length payload.now ≤ 512 }
     ensures { (result.packets ≤ 300) × (result.different ≤ 300) }
@@ -115,7 +115,7 @@ fn message(size: PacketSize, payload: &[u8], area: &mut Area, expected: &mut Are
     let count = counted(size, payload.len());
     expected.fill(WIPED);
     let refused = Piece {
-        number: u8::from(Refusal::Message),
+        number: 11,
         length: 0,
     };
     let mut different = u64::from(differs(size, payload, count, refused, area, expected));

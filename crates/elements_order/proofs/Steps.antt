@@ -6,7 +6,7 @@ use lib.Dec.{leb, eqb}
 use borrow.Author.Tests.{le-leb, lt-leb, ne_eqb}
 use Rattle.octets.specs.Patch.{part}
 use Rattle.rules.specs.Octets.{member}
-use Rattle.rules.specs.Elements.{items}
+use Rattle.rules.specs.Elements.{Item, whole, short, items}
 use Rattle.elements_reader.specs.Orders.{followers, in_order}
 use Rattle.elements_reader.specs.Standing.{element_at, items_by}
 use Rattle.elements_reader.specs.declared.Element.{Element}
@@ -61,7 +61,7 @@ module _ (again : Bool) (test : ℕ → List ℕ → Bool) (last : ℕ) (l : Lis
 
 module _ (again : Bool) (test : ℕ → List ℕ → Bool) (l : List ℕ) (at : ℕ) where
   -- behind delay reporting nothing may follow
-  at_last : in_order again test 8 (items (drop at l)) ≡ leb (length l) at
+  pub at_last : in_order again test 8 (items (drop at l)) ≡ leb (length l) at
   unfolding followers member
   at_last = go (element_at l at) refl (stands l at)
     where
@@ -71,11 +71,16 @@ module _ (again : Bool) (test : ℕ → List ℕ → Bool) (l : List ℕ) (at : 
       go (Whole c n first) e s = at_other again test 8 l at c n first e refl ∙ sym (lt-leb (length l) at (omega arith))
 
 module _ (again : Bool) (test : ℕ → List ℕ → Bool) (l : List ℕ) (at c n first : ℕ) (e : Whole c n first ≡ element_at l at) where
+  -- an element is judged alike behind two categories which it may both follow, or neither
+  pub at_alike : (last other : ℕ) → member c (followers again last) ≡ member c (followers again other)
+      → in_order again test last (items (drop at l)) ≡ in_order again test other (items (drop at l))
+  unfolding items_by in_order
+  at_alike last other m = by_element again test last l at e ∙ (rw m) ∙ sym (by_element again test other l at e)
+
   -- what is not reporting may follow the media transport where it may follow reporting
   pub at_unreported : (c ≡ 2 → ⊥) → in_order again test 1 (items (drop at l)) ≡ in_order again test 2 (items (drop at l))
-  unfolding items_by in_order followers member
-  at_unreported f =
-      by_element again test 1 l at e ∙ (rw (ne_eqb c 2 f)) ∙ sym (by_element again test 2 l at e)
+  unfolding followers member
+  at_unreported f = at_alike 1 2 (rw (ne_eqb c 2 f))
 
   pub at_delay : c ≡ 8 → test c (part first n l) ≡ true → in_order again test 7 (items (drop at l)) ≡ leb (length l) (first + n)
   unfolding followers member
@@ -83,6 +88,18 @@ module _ (again : Bool) (test : ℕ → List ℕ → Bool) (l : List ℕ) (at c 
       at_passed again test 7 l at c n first e (rw p) t
       ∙ ap (λ k. in_order again test k (items (drop (first + n) l))) p
       ∙ at_last again test l (first + n)
+
+-- where content protection may follow itself, the same may be left behind it and behind reporting
+pub reporting_passed : (test : ℕ → List ℕ → Bool) (is : List Item) → in_order true test 4 is ≡ in_order true test 2 is
+unfolding in_order followers
+reporting_passed test [] = refl
+reporting_passed test (short c ∷ is) = refl
+reporting_passed test (whole c v ∷ is) = refl
+
+-- the same, for a test that says so
+pub at_again : (again : Bool) (test : ℕ → List ℕ → Bool) (is : List Item) → again ≡ true
+    → in_order again test 2 is ≡ in_order again test 4 is
+at_again again test is p = rw (p, reporting_passed test is)
 
 -- a row of the table of what may follow, category by category
 pub row_end : (c : ℕ) → member c [] ≡ false
@@ -93,5 +110,18 @@ pub row_next : (c d : ℕ) (ds : List ℕ) → member c (d ∷ ds) ≡ eqb c d |
 unfolding member
 row_next c d ds = refl
 
-pub ruleset steps =
-    (row_end, row_next, within, at_end, at_short, at_none, at_other, at_next, at_passed, at_refused, at_unreported, at_delay)
+pub ruleset steps = (
+  row_end,
+  row_next,
+  within,
+  at_end,
+  at_short,
+  at_none,
+  at_other,
+  at_next,
+  at_passed,
+  at_refused,
+  at_unreported,
+  at_again,
+  at_delay,
+)

@@ -7,7 +7,7 @@ use native.Mathlib.Nat.{zero-add, add-zero}
 use native.Mathlib.Numerals.{add-one}
 use native.Mathlib.Omega.{arith}
 use lib.ListN.{length, take, drop, set, length-append, length-take, length-drop, take-append-drop}
-use lib.Seq.{take_at, drop_at, length-take-le, drop-drop, take-take, take-append-add}
+use lib.Seq.{take_at, drop_at, length-take-le, drop-drop, take-take, take-append-le, drop-append-le, take-append-add}
 use lib.Seq.{drop-append-add, take-append_seam, take-nil, take-add, set_split, set_at, sets, sets-eq}
 use Rattle.rules.specs.Octets.{front}
 use Rattle.octets.specs.Patch.{patch, part}
@@ -55,6 +55,15 @@ part_take zero size n d h = take-take size n d (omega arith)
 part_take (suc from) size n [] h = rw (take-nil {A = ℕ} n)
 part_take (suc from) size zero (x ∷ d) h = absurd (omega arith)
 part_take (suc from) size (suc n) (x ∷ d) h = part_take from size n d (omega arith)
+
+pub part_before : (from size at : ℕ) (s d : List ℕ) → from + size ≤ at → at ≤ length d → part from size (patch at s d)
+    ≡ part from size d
+unfolding patch part
+part_before from size at s d h k =
+    let room : length (take at d) ≡ at = length-take-le at d k in
+    ap (take size) (drop-append-le from (take at d) (s ++ drop (at + length s) d) (omega arith))
+    ∙ take-append-le size (drop from (take at d)) (s ++ drop (at + length s) d) (simp length-drop (omega arith))
+    ∙ part_take from size at d h
 
 pub drop_patch : (n at : ℕ) (s d : List ℕ) → at + length s ≤ n → at + length s ≤ length d → drop n (patch at s d) ≡ drop n d
 unfolding patch

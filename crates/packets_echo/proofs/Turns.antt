@@ -50,14 +50,18 @@ module _ {size : ℕ} {m : Message} (w : Whole size m) where
   pub some_packet : 0 < count_of size m
   some_packet = (count_small size m w.right w.short).0
 
+  pub few_packets : count_of size m ≤ 255
+  few_packets = (count_small size m w.right w.short).1
+
   pub packet_small : (k : ℕ) → length (packet_at size m k) ≤ 672
   packet_small k = omega (arith, w.most, packets_fit size m k w.right)
 
-  pub written : (k : ℕ) (p : Piece) (area after : List ℕ) → k < count_of size m → 672 ≤ length area
-      → ◌≡◌ {A = Cut} (record { piece = p; area = after }) (cut_call size m k area) → Written p (packet_at size m k) area after
-  written k p area after below long e =
+  pub written : (k : ℕ) {asked : ℕ} (p : Piece) (area after : List ℕ) → k < count_of size m → 672 ≤ length area → asked ≡ k
+      → ◌≡◌ {A = Cut} (record { piece = p; area = after }) (cut_call size m asked area)
+      → Written p (packet_at size m k) area after
+  written k p area after below long this e =
       let n : Numbered size m k (count_of size m) = record { right = w.right; short = w.short; whole = refl; below = below } in
-      let f = e ∙ cuts n area w.room (omega (arith, packet_small k)) in
+      let f = e ∙ ap (λ (i : ℕ). cut_call size m i area) this ∙ cuts n area w.room (omega (arith, packet_small k)) in
       record { size = ap (λ (c : Cut). c.piece.length) f; octets = ap (λ (c : Cut). c.area) f }
 
 -- ---- The gathering of it
@@ -98,6 +102,7 @@ pub record Back (m : Message) (e : Echoed) (message after : List ℕ) : Type 0 w
 -- or packet number k is owed
 pub record Owed (size : ℕ) (m : Message) (k : ℕ) (room : List ℕ) : Type 0 where
   pub below : k < count_of size m
+  pub few : count_of size m ≤ 255
   pub right : RoomRight room
   pub reached : Reached size m (gathering_in room) k
 
@@ -141,6 +146,7 @@ module _ {size : ℕ} {m : Message} {k : ℕ} {room : List ℕ} (w : Whole size 
       let legal = (gather_right size (gathering_in room) packet o.right.limits).gathering in
       rw add-one record {
         below = l;
+        few = o.few;
         right = rw is_left (room_kept size room packet o.right);
         reached =
             reached_so_far k

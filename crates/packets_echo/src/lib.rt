@@ -33,6 +33,8 @@ fn receive(room: &mut [u8], size: PacketSize, packet: &[u8], message: &mut [u8])
 {
     match packets_gather::gather(room, size.octets, packet) {
         Next::Single(header) => {
+            // its header and its signal
+            prove!(2 <= packet.len());
             let payload = &packet[2..];
             octets::put(message, 0, payload);
             Some(Echoed {

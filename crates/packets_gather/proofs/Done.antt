@@ -64,6 +64,21 @@ module _ (size : ℕ) (room p : List ℕ) where
     gathered_kept : (h : Header) → RoomTells size room p (Complete h) → gathering_at (room_after size room p) ≡ gathering_at room
     gathered_kept h told = ap gathering_at (left h told) ∙ mark_gone room (omega (arith, right.long))
 
+    done_kept : (r : Next) → RoomTells size room p r
+        → done_by r (gathering_at room) p ≡ done_by r (gathering_at (room_after size room p)) p
+    unfolding done_by
+    done_kept Ended told = refl
+    done_kept (Single h) told = refl
+    done_kept Begun told = refl
+    done_kept Grown told = refl
+    done_kept (Complete h) told =
+        ap (λ (g : Gathering). some (extended g.message (drop 1 p))) (sym (gathered_kept h told))
+
+    -- and by what is left in the room behind it
+    pub done_after : (gather size (gathering_in room) p).done
+        ≡ done_by (next_of size (gathering_in room) p) (gathering_at (room_after size room p)) p
+    done_after = done_before ∙ done_kept (next_of size (gathering_in room) p) (room_told size room p _ refl)
+
     pub assembled : (h : Header) → next_of size (gathering_in room) p ≡ Complete h
         → Assembled h p (room_after size room p) (gather size (gathering_in room) p).done
     unfolding extended

@@ -44,15 +44,22 @@ fn take(rt: &impl Print, session: &mut Session, step: Step<'_>) -> Result<(), Fa
     Ok(())
 }
 
+// A step: what it does and answers. The room that its octets have, and the areas of the steps, take pages of the stack that are
+// written when it begins, so it isn't laid into `answer`: a line without a step costs none of that.
+#[inline(never)]
+fn act(rt: &impl Print, session: &mut Session, text: &[u8]) -> Result<(), Failure> {
+    let mut room = Room::new();
+    let step = read(text, session.is_booked(), &mut room)?;
+    take(rt, session, step)
+}
+
 // A line that was read: a step, nothing, or too long.
 fn answer(rt: &impl Print, session: &mut Session, line: &Line) -> Result<(), Failure> {
     let text = lines::step(line.octets().ok_or(Odd::Long)?);
     if text.is_empty() {
         return Ok(());
     }
-    let mut room = Room::new();
-    let step = read(text, session.is_booked(), &mut room)?;
-    take(rt, session, step)
+    act(rt, session, text)
 }
 
 // Line k: its answer, or that it was not understood.

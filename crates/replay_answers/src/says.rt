@@ -1,18 +1,50 @@
 // How octets and names are written. A line is printed by one call, so that who types a script sees each answer before the next
 // line.
+ghost use Rattle.std.specs.Prelude.{◌<◌};
+
 use replay_hexes::spell;
 use replay_script::names::{CHANNELS, STATES};
-use std::fmt;
+use std::{fmt, str};
 
-// An octet: two digits in capitals.
-#[derive(Clone, Copy)]
-struct Hex(u8);
+// So many octets are laid out in an array and then written at once, because each piece that is written costs.
+const RUN: usize = 32;
 
-impl fmt::Display for Hex {
-    fn fmt<W: fmt::Write>(&self, f: &mut fmt::Formatter<W>) -> fmt::Result {
-        f.write_char(char::from(spell(self.0 / 16)))?;
-        f.write_char(char::from(spell(self.0 % 16)))
+// A digit of a value below 16, in capitals.
+#[tactic(auto, unfolding(replay_hexes::specs::Hexes::spelled))]
+fn digit(value: u8) -> u8
+    ensures { result < 128 }
+{
+    spell(value)
+}
+
+// The first octets, at most a run: two digits in capitals each, with nothing between them. The text lies in the area.
+#[tactic(auto, using(crate::proofs::Texts::text_front))]
+fn lay_joined<'a>(octets: &[u8], area: &'a mut [u8; 64]) -> &'a str {
+    let count = octets.len().min(RUN);
+    *area = [b'0'; 64];
+    for k in 0..count {
+        area[2 * k] = digit(octets[k] / 16);
+        area[2 * k + 1] = digit(octets[k] % 16);
     }
+    let Ok(text) = str::from_utf8(&area[..2 * count]) else {
+        unreachable!();
+    };
+    text
+}
+
+// The same with a blank before each.
+#[tactic(auto, using(crate::proofs::Texts::text_front))]
+fn lay_parted<'a>(octets: &[u8], area: &'a mut [u8; 96]) -> &'a str {
+    let count = octets.len().min(RUN);
+    *area = [b' '; 96];
+    for k in 0..count {
+        area[3 * k + 1] = digit(octets[k] / 16);
+        area[3 * k + 2] = digit(octets[k] % 16);
+    }
+    let Ok(text) = str::from_utf8(&area[..3 * count]) else {
+        unreachable!();
+    };
+    text
 }
 
 // Octets, with nothing between them.
@@ -21,8 +53,9 @@ pub struct Joined<'a>(pub &'a [u8]);
 
 impl fmt::Display for Joined<'_> {
     fn fmt<W: fmt::Write>(&self, f: &mut fmt::Formatter<W>) -> fmt::Result {
-        for octet in self.0 {
-            Hex(*octet).fmt(f)?;
+        let mut area = [0; 64];
+        for run in self.0.chunks(RUN) {
+            f.write_str(lay_joined(run, &mut area))?;
         }
         Ok(())
     }
@@ -34,9 +67,9 @@ pub struct Parted<'a>(pub &'a [u8]);
 
 impl fmt::Display for Parted<'_> {
     fn fmt<W: fmt::Write>(&self, f: &mut fmt::Formatter<W>) -> fmt::Result {
-        for octet in self.0 {
-            f.write_char(' ')?;
-            Hex(*octet).fmt(f)?;
+        let mut area = [0; 96];
+        for run in self.0.chunks(RUN) {
+            f.write_str(lay_parted(run, &mut area))?;
         }
         Ok(())
     }

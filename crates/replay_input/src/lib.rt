@@ -34,7 +34,11 @@ impl Line {
         self.is_long = false;
     }
 
+    // An empty line, of which there may be many, has nothing to copy.
     fn add(&mut self, octets: &[u8]) {
+        if octets.is_empty() {
+            return;
+        }
         if self.octets.try_extend_from_slice(octets).is_err() {
             self.is_long = true;
         }

@@ -1,6 +1,6 @@
 // A line is a step, or nothing: what stands before a comment, without the blanks at its ends. A step is words, parted by one
 // blank each; the place of a word is where it begins, and behind the last word it is the length of the step.
-ghost use Rattle.std.specs.Prelude.{◌≡◌, ◌≤◌, ◌==◌, not, drop, length, position, reverse};
+ghost use Rattle.std.specs.Prelude.{◌≡◌, ◌<◌, ◌≤◌, ◌==◌, not, drop, length, position, reverse, MatchOption};
 ghost use Rattle.std.specs.Iterator.{at_most};
 ghost use Rattle.replay_script.specs.Lines.{first_of, is_blank, blanks_of, kept_of, step_in, part_at, word_at, next_at};
 
@@ -109,6 +109,13 @@ pub struct Words<'a>(pub &'a [u8]);
 
 impl<'a> Iterator for Words<'a> {
     type Item = &'a [u8];
+
+    // The first word, and what is left behind it; of nothing no word, and nothing is left.
+    ghost next_gives = { λ words gives behind. MatchOption gives
+        ((length words.0.now ≡ 0) × (behind.0.now ≡ words.0.now))
+        (λ first. (0 < length words.0.now)
+        × (first.now ≡ word_at 0 words.0.now)
+        × (behind.0.now ≡ drop (next_at 0 words.0.now) words.0.now)) };
 
     ghost remaining = { λ words. at_most (length words.0.now) };
 

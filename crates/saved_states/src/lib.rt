@@ -36,7 +36,7 @@ pub fn is_streaming(state: State) -> bool
 }
 
 // Configured, open or streaming.
-#[tactic(auto, unfolding(rules::specs::Commands::is_set))]
+#[tactic(auto, unfolding(rules::specs::Commands::is_set, rules::specs::Commands::is_open, rules::specs::Commands::is_streaming))]
 pub fn is_set(state: State) -> bool
     ensures { result ≡ is_set state }
 {

@@ -8,8 +8,8 @@ use Rattle.rules.specs.Packets.{Message}
 use Rattle.rules.specs.Cutting.{count_of, packet_at}
 use Rattle.packets_cut.proofs.Cutter.{size_right_lem}
 use Rattle.packets_echo.specs.declared.Echoed.{Echoed}
-use Rattle.packets_echo.proofs.Turns.{message_of, Whole, some_packet, packet_small, Written, written, lent, fresh, Back}
-use Rattle.packets_echo.proofs.Turns.{turn_done, turn_on}
+use Rattle.packets_echo.proofs.Turns.{message_of, Whole, some_packet, few_packets, packet_small, Written, written, lent, fresh}
+use Rattle.packets_echo.proofs.Turns.{Back, turn_done, turn_on}
 use Rattle.packets_echo.proofs.echo.Goals as goal
 use Rattle.packets_echo.proofs.echo.Goals.{After-count-index-end, After-cut-piece, After-receive}
 
@@ -32,7 +32,7 @@ written_at : (c : After-cut-piece) → Whole c.args.size.octets (message_at c)
     c.cut-piece.new.area
 written_at c w =
     written w c.loop-index.index c.cut-piece.result c.loop-index.area c.cut-piece.new.area c.loop-index.invariant.owed.below
-    (omega arith) c.cut-piece.ensures
+    (omega arith) (omega arith) c.cut-piece.ensures
 
 lent_at : (c : After-cut-piece) → Whole c.args.size.octets (message_at c)
     → take c.cut-piece.result.length c.cut-piece.new.area ≡ packet_at c.args.size.octets (message_at c) c.loop-index.index
@@ -55,7 +55,10 @@ back_at c w packet e d =
 pub loop-index-init : goal.loop-index-init
 loop-index-init c =
     let w = whole_at c in
-    record { owed = record { below = some_packet w; right = c.requires.room_right; reached = fresh }; untouched = refl }
+    record {
+      owed = record { below = some_packet w; few = few_packets w; right = c.requires.room_right; reached = fresh };
+      untouched = refl;
+    }
 
 pub slice_bounds-receive-end : goal.slice_bounds-receive-end
 slice_bounds-receive-end c =

@@ -1,5 +1,6 @@
 -- `receive` meets its contract: each answer of the gathering comes with the message that is complete, which is then written.
-use Rattle.std.proofs.Common.{◌≡◌, ℕ, ◌-◌, List, ◌++◌, length, take, drop, sym, ap, ◌∙◌, arith}
+use Rattle.std.proofs.Common.{◌≡◌, ℕ, ◌-◌, ◌≤◌, List, ◌++◌, length, take, drop, sym, ◌∙◌, arith, length-take, length-drop}
+use lib.Seq.{take_all}
 use Rattle.std.proofs.Math.Option.{Option, none, some}
 use Rattle.std.specs.Prelude.{Some, None}
 use Rattle.rules.specs.Octets.{front}
@@ -27,10 +28,12 @@ module _ (h : Header) (p : List ℕ) (done : Option Message) where
   unfolding echoed_of
   single_echoed e = rw (e, behind_whole 2 p)
 
-  single_written : (a message : List ℕ) → done ≡ some (record { header = h; payload = drop 2 p })
-      → a ≡ patch 0 (take (length p - 2) (drop 2 p)) message → a ≡ payload_on done message
+  single_written : {n : ℕ} (a message : List ℕ) → length p - 2 ≤ n → done ≡ some (record { header = h; payload = drop 2 p })
+      → a ≡ patch 0 (take n (drop 2 p)) message → a ≡ payload_on done message
   unfolding payload_on
-  single_written a message e f = f ∙ rw (e, behind_whole 2 p) (sym (front_patch (drop 2 p) message))
+  single_written {n} a message all e f =
+      let whole : take n (drop 2 p) ≡ drop 2 p = take_all n (drop 2 p) (rw length-drop all) in
+      f ∙ rw (e, whole) (sym (front_patch (drop 2 p) message))
 
   several_echoed : (room : List ℕ) (r : ℕ) → Assembled h p room done
       → r ≡ length ((gathering_at room).message.payload ++ drop 1 p)
@@ -73,16 +76,15 @@ assembled_at c h e =
 
 -- ---- The goals
 
-pub slice_bounds-payload-count : goal.slice_bounds-payload-count
-slice_bounds-payload-count c = (told (goal.at.slice_bounds-payload-count c).After-gather (Single _) c.in-Single.is).header
-
-pub slice_bounds-payload-start : goal.slice_bounds-payload-start
-slice_bounds-payload-start c = (told (goal.at.slice_bounds-payload-start c).After-gather (Single _) c.in-Single.is).header
+pub prove-unreachable-requires : goal.prove-unreachable-requires
+prove-unreachable-requires c =
+    let single = told (goal.at.prove-unreachable-requires c).After-gather (Single _) c.in-Single.is in
+    omega (arith, single.header)
 
 pub put-requires : goal.put-requires
 put-requires c =
     let single = told (goal.at.put-requires c).After-gather (Single _) c.in-Single.is in
-    omega (arith, single.fits, ap length (behind_whole 2 c.args.packet.now))
+    omega (arith, single.fits, length-take {A = ℕ}, length-drop {A = ℕ})
 
 pub assemble-requires : goal.assemble-requires
 assemble-requires c =
@@ -101,7 +103,8 @@ returns-in-Single c =
     record {
       echoed = single_echoed _ c.args.packet.now (done_of at) m;
       room = c.gather.ensures.room;
-      message = single_written _ c.args.packet.now (done_of at) c.put.new.dst c.args.message.now m c.put.ensures;
+      message = single_written _ c.args.packet.now (done_of at) c.put.new.dst c.args.message.now
+          (omega (arith, length-take {A = ℕ}, length-drop {A = ℕ})) m c.put.ensures;
     }
 
 pub returns-in-Complete : goal.returns-in-Complete

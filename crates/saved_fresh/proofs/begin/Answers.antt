@@ -1,6 +1,6 @@
 -- `begin` meets its contract: at a turn the entries that are left are right, and the records that are written make up the whole
 -- with those that are left.
-use Rattle.std.proofs.Common.{◌+◌, ◌-◌, length, ap, ◌∙◌, arith}
+use Rattle.std.proofs.Common.{◌≡◌, ◌+◌, ◌-◌, length, get_or, arith}
 use Rattle.rules.specs.Book.{book_of}
 use Rattle.rules.specs.Endpoints.{idle_head}
 use Rattle.book.proofs.Entries.{first_entry, other_entries}
@@ -24,10 +24,11 @@ loop-i-preserved c =
     let e = c.entry-entry.ensures in
     let n = length (book_of c.args.book.octets.now) in
     let rest = n - (c.loop-i.i + 1) in
+    let made : c.idle.result ≡ idle_head (record { 0 = get_or c.args.book.octets.now c.loop-i.at 0 }) = cc in
     rw (e.from, e.size) (record {
       right = other_entries rest (n - c.loop-i.i) _ c.loop-i.at (omega arith) c.loop-i.invariant.right;
       begun = one_begun rest (n - c.loop-i.i) _ c.loop-i.at c.loop-i.i c.loop-i.records c.set.new.records _ (omega arith)
-          (omega arith) (c.idle.ensures ∙ ap idle_head e.seid) c.set.ensures c.loop-i.invariant.begun;
+          (omega arith) made c.set.ensures c.loop-i.invariant.begun;
     })
 
 pub returns : goal.returns

@@ -69,7 +69,7 @@ loop-i-preserved c =
     let left = c.count-entries.result - c.loop-i.i in
     let e = c.entry-entry.ensures in
     let r = room (goal.at.loop-i-preserved c).In-loop-i in
-    rw (e.seid, e.kind, e.from, e.size) (record {
+    simp (e.seid, e.kind, e.from, e.size) (record {
       room = simp length-set c.loop-i.invariant.room;
       left = rest_left n left _ c.loop-i.at (omega arith) c.loop-i.invariant.left;
       said = octets_turn n left _ c.loop-i.at c.args.records.now c.loop-i.i (omega arith) c.loop-i.reply c.in_use.ensures
