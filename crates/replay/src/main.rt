@@ -53,18 +53,18 @@ fn act(rt: &impl Print, session: &mut Session, text: &[u8]) -> Result<(), Failur
     take(rt, session, step)
 }
 
-// A line that was read: a step, nothing, or too long.
-fn answer(rt: &impl Print, session: &mut Session, line: &Line) -> Result<(), Failure> {
-    let text = lines::step(line.octets().ok_or(Odd::Long)?);
-    if text.is_empty() {
-        return Ok(());
-    }
-    act(rt, session, text)
+// A line that was read and isn't without a step: the step, or too long.
+fn answer(rt: &impl Print, session: &mut Session, text: Option<&[u8]>) -> Result<(), Failure> {
+    act(rt, session, text.ok_or(Odd::Long)?)
 }
 
-// Line k: its answer, or that it was not understood.
+// Line k: its answer, or that it was not understood. A line without a step, of which there may be many, has none.
 fn serve(rt: &impl Print, session: &mut Session, k: usize, line: &Line) -> io::Result<()> {
-    match answer(rt, session, line) {
+    let text = line.octets().map(lines::step);
+    if matches!(text, Some([])) {
+        return Ok(());
+    }
+    match answer(rt, session, text) {
         Ok(()) => Ok(()),
         Err(Failure::Output(error)) => Err(error),
         Err(Failure::Line(why)) => {

@@ -1,21 +1,27 @@
 // The input, line by line.
 #![tactic(auto)]
 
-use arrayvec::ArrayVec;
+ghost use Rattle.std.specs.Prelude.{◌≤◌};
+
+use replay_script::lines::first;
 use std::io;
 use std::io::Read;
 
-// A line as it is read: its octets, as long as there is room for them.
+// A line as it is read: its octets, as long as there is room for them. They are no `ArrayVec`: to empty one and to add to one are
+// calls of `memset` and `memcpy`, which for a short line are most of the work.
 #[derive(Drop)]
 pub struct Line {
-    octets: ArrayVec<u8, 8191>,
+    octets: [u8; 8191],
+    count: usize,
     is_long: bool,
+    ghost inside: { count ≤ 8191 },
 }
 
 impl Line {
     pub fn new() -> Line {
         Line {
-            octets: ArrayVec::new(),
+            octets: [0; 8191],
+            count: 0,
             is_long: false,
         }
     }
@@ -25,21 +31,31 @@ impl Line {
         if self.is_long {
             None
         } else {
-            Some(self.octets.as_slice())
+            Some(&self.octets[..self.count])
         }
     }
 
     fn clear(&mut self) {
-        self.octets.clear();
+        self.count = 0;
         self.is_long = false;
     }
 
-    // An empty line, of which there may be many, has nothing to copy.
+    // An empty line, of which there may be many, has nothing to add.
     fn add(&mut self, octets: &[u8]) {
-        if octets.is_empty() {
-            return;
+        if !octets.is_empty() {
+            self.lay(octets);
         }
-        if self.octets.try_extend_from_slice(octets).is_err() {
+    }
+
+    // Not to be laid into `next`: there the compiler sees that the line and the input are apart, and makes a call of `memcpy` of
+    // what `put` does.
+    #[inline(never)]
+    fn lay(&mut self, octets: &[u8]) {
+        let end = self.count.saturating_add(octets.len());
+        if end <= 8191 {
+            octets::put(&mut self.octets, self.count, octets);
+            self.count = end;
+        } else {
             self.is_long = true;
         }
     }
@@ -75,25 +91,22 @@ impl<R: Read + Drop> Input<R> {
             return Ok(false);
         }
         for _ in 0..u64::MAX {
-            if self.to <= self.from {
-                self.from = 0;
-                self.to = self.source.read(&mut self.octets)?;
-            }
             let left = self.octets.get(self.from..self.to).unwrap_or(&[]);
             if left.is_empty() {
-                self.has_ended = true;
-                return Ok(true);
-            }
-            match left.iter().position(|octet| *octet == b'\n') {
-                Some(n) => {
-                    line.add(left.get(..n).unwrap_or(&[]));
-                    self.from = self.from.saturating_add(n).saturating_add(1);
+                self.from = 0;
+                self.to = self.source.read(&mut self.octets)?;
+                if self.to == 0 {
+                    self.has_ended = true;
                     return Ok(true);
                 }
-                None => {
-                    line.add(left);
-                    self.from = self.to;
+            } else {
+                let n = first(left, b'\n');
+                line.add(&left[..n]);
+                if n < left.len() {
+                    self.from += n + 1;
+                    return Ok(true);
                 }
+                self.from = self.to;
             }
         }
         Ok(false)
