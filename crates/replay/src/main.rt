@@ -1,4 +1,4 @@
-// Runs a script of packets and events against the bridge, line by line, and writes the bridge's answers. Every line gets its
+// Runs a script of packets and events against the bridge, line by line, and writes the bridge's answers. Every step gets its
 // answer, or `line K not understood`; nothing ends the run but the end of the input, or an error of reading or writing.
 #![tactic(auto)]
 
@@ -45,7 +45,7 @@ fn take(rt: &impl Print, session: &mut Session, step: Step<'_>) -> Result<(), Fa
 }
 
 // A step: what it does and answers. The room that its octets have, and the areas of the steps, take pages of the stack that are
-// written when it begins, so it isn't laid into `answer`: a line without a step costs none of that.
+// written when it begins, so it isn't to be compiled into `serve`: a line without a step costs none of that.
 #[inline(never)]
 fn act(rt: &impl Print, session: &mut Session, text: &[u8]) -> Result<(), Failure> {
     let mut room = Room::new();
@@ -53,12 +53,13 @@ fn act(rt: &impl Print, session: &mut Session, text: &[u8]) -> Result<(), Failur
     take(rt, session, step)
 }
 
-// A line that was read and isn't without a step: the step, or too long.
+// A step, or `None` for a line that was too long.
 fn answer(rt: &impl Print, session: &mut Session, text: Option<&[u8]>) -> Result<(), Failure> {
     act(rt, session, text.ok_or(Odd::Long)?)
 }
 
-// Line k: its answer, or that it was not understood. A line without a step, of which there may be many, has none.
+// Line k: its answer, or that it was not understood. A line without a step gets no answer; there may be many of them, so they are
+// told apart here, before there is room for a `Failure`.
 fn serve(rt: &impl Print, session: &mut Session, k: usize, line: &Line) -> io::Result<()> {
     let text = line.octets().map(lines::step);
     if matches!(text, Some([])) {

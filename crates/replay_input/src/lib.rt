@@ -8,7 +8,7 @@ use std::io;
 use std::io::Read;
 
 // A line as it is read: its octets, as long as there is room for them. They are no `ArrayVec`: to empty one and to add to one are
-// calls of `memset` and `memcpy`, which for a short line are most of the work.
+// calls of `memset` and `memcpy`, by which a short line takes half as much time again.
 #[derive(Drop)]
 pub struct Line {
     octets: [u8; 8191],
@@ -47,8 +47,8 @@ impl Line {
         }
     }
 
-    // Not to be laid into `next`: there the compiler sees that the line and the input are apart, and makes a call of `memcpy` of
-    // what `put` does.
+    // Not to be compiled into `next`: there the compiler sees that the line and the input are apart, and makes `put` a call of
+    // `memcpy` too.
     #[inline(never)]
     fn lay(&mut self, octets: &[u8]) {
         let end = self.count.saturating_add(octets.len());
@@ -93,8 +93,8 @@ impl<R: Read + Drop> Input<R> {
         for _ in 0..u64::MAX {
             let left = self.octets.get(self.from..self.to).unwrap_or(&[]);
             if left.is_empty() {
-                self.from = 0;
                 self.to = self.source.read(&mut self.octets)?;
+                self.from = 0;
                 if self.to == 0 {
                     self.has_ended = true;
                     return Ok(true);
