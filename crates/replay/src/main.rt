@@ -1,5 +1,6 @@
-// Runs a script of packets and events against the bridge, line by line, and writes the bridge's answers. Every step gets its
-// answer, or `line K not understood`; nothing ends the run but the end of the input, or an error of reading or writing.
+// Runs a script of packets and events against the bridge, line by line, and writes the bridge's answers. Every line that
+// isn't empty or a comment gets its answer, or `line K not understood`; nothing ends the run but the end of the input, or an error
+// of reading or writing.
 #![tactic(auto)]
 
 mod failure;

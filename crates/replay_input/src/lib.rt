@@ -2,25 +2,29 @@
 #![tactic(auto)]
 
 ghost use Rattle.std.specs.Prelude.{◌≤◌};
+ghost use Rattle.replay_input.specs.declared.TheConstants.{ROOM};
 
 use replay_script::lines::first;
 use std::io;
 use std::io::Read;
 
+// How many octets a line has room for.
+const ROOM: usize = 8191;
+
 // A line as it is read: its octets, as long as there is room for them. They are no `ArrayVec`: to empty one and to add to one are
 // calls of `memset` and `memcpy`, by which a short line takes half as much time again.
 #[derive(Drop)]
 pub struct Line {
-    octets: [u8; 8191],
+    octets: [u8; ROOM],
     count: usize,
     is_long: bool,
-    ghost inside: { count ≤ 8191 },
+    ghost inside: { count ≤ ROOM },
 }
 
 impl Line {
     pub fn new() -> Line {
         Line {
-            octets: [0; 8191],
+            octets: [0; ROOM],
             count: 0,
             is_long: false,
         }
@@ -52,7 +56,7 @@ impl Line {
     #[inline(never)]
     fn lay(&mut self, octets: &[u8]) {
         let end = self.count.saturating_add(octets.len());
-        if end <= 8191 {
+        if end <= ROOM {
             octets::put(&mut self.octets, self.count, octets);
             self.count = end;
         } else {
